@@ -1,0 +1,5 @@
+pub mod Difference
+pub mod Ring
+pub mod Order
+pub mod Magnitude
+pub mod Square

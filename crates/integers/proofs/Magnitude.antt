@@ -1,0 +1,60 @@
+-- Bounds of integers through their magnitudes, which are natural numbers.
+use mathlib.Core.Path.{_≡_, refl}
+use Prim.Native.Nat.{ℕ, zero, suc, _+_, _*_, _^_, _≤_, _<_}
+use native.Mathlib.Nat.{le-of-lt}
+use native.Mathlib.Omega.{arith}
+use lib.IntN.{ℤ, pos, negsuc, negℤ, natAbs, _+ℤ_, _-ℤ_, _*ℤ_}
+use lib.Signed.{_≤ℤ_, yes-nonNeg, pos-natAbs}
+use mir.Syntax.{Width}
+use mir.Val.{hbits, SFits}
+use Rattle.integers.proofs.Difference.{Diff, up, down, var, nat, diff-le, le-diff, ⊝_, _⊕_, _⊖_}
+
+-- A magnitude by the parts of its integer, one of which is zero.
+pub natAbs-parts : (z : ℤ) → natAbs z ≡ up z + down z
+natAbs-parts (pos n) = omega arith
+natAbs-parts (negsuc n) = omega arith
+
+-- The magnitude of p − q is at most b where neither is more than b above the other, and back.
+pub diff-within : {z : ℤ} {p q b : ℕ} → Diff z p q → (p ≤ q + b) × (q ≤ p + b) → natAbs z ≤ b
+diff-within {z = pos n} d h = omega arith
+diff-within {z = negsuc n} d h = omega arith
+
+pub within-diff : {z : ℤ} {p q b : ℕ} → Diff z p q → natAbs z ≤ b → (p ≤ q + b) × (q ≤ p + b)
+within-diff {z} d h = omega (arith, natAbs-parts z)
+
+-- A magnitude of at most b says -b ≤ z ≤ b.
+pub within : {b : ℕ} {z : ℤ} → negℤ (pos b) ≤ℤ z → z ≤ℤ pos b → natAbs z ≤ b
+within {b} {z} h k = diff-within (var z) (omega (arith, le-diff (⊝ nat b) (var z) h, le-diff (var z) (nat b) k))
+
+pub within-low : (z : ℤ) {b : ℕ} → natAbs z ≤ b → negℤ (pos b) ≤ℤ z
+within-low z {b} h = diff-le (⊝ nat b) (var z) (omega (arith, natAbs-parts z))
+
+pub within-high : (z : ℤ) {b : ℕ} → natAbs z ≤ b → z ≤ℤ pos b
+within-high z {b} h = diff-le (var z) (nat b) (omega (arith, natAbs-parts z))
+
+-- The magnitudes of the operations' results.
+pub natAbs-neg : (z : ℤ) → natAbs (negℤ z) ≡ natAbs z
+natAbs-neg (pos zero) = refl
+natAbs-neg (pos (suc n)) = refl
+natAbs-neg (negsuc n) = refl
+
+pub natAbs-add : (x y : ℤ) → natAbs (x +ℤ y) ≤ natAbs x + natAbs y
+natAbs-add x y = diff-within (var x ⊕ var y) (omega (arith, natAbs-parts x, natAbs-parts y))
+
+pub natAbs-sub : (x y : ℤ) → natAbs (x -ℤ y) ≤ natAbs x + natAbs y
+natAbs-sub x y = diff-within (var x ⊖ var y) (omega (arith, natAbs-parts x, natAbs-parts y))
+
+pub natAbs-mul : (x y : ℤ) → natAbs (x *ℤ y) ≡ natAbs x * natAbs y
+natAbs-mul (pos a) (pos b) = refl
+natAbs-mul (pos a) (negsuc b) = natAbs-neg (pos (a * suc b))
+natAbs-mul (negsuc a) (pos b) = natAbs-neg (pos (suc a * b))
+natAbs-mul (negsuc a) (negsuc b) = refl
+
+-- An integer that is not negative is its magnitude.
+pub natAbs-pos : {z : ℤ} → pos 0 ≤ℤ z → pos (natAbs z) ≡ z
+natAbs-pos {z} h = pos-natAbs z (yes-nonNeg h)
+
+-- An integer fits a signed width where its magnitude is below half the width's power.
+pub fits-of : (w : Width) {z : ℤ} → natAbs z < 2 ^ hbits w → SFits w z
+fits-of w {z = pos n} h = record { sfits = h }
+fits-of w {z = negsuc n} h = record { sfits = le-of-lt h }

@@ -1,0 +1,1 @@
+// Laws of the integers only: nothing runs here.

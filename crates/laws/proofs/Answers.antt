@@ -1,0 +1,102 @@
+-- Each answer is read as the paper's number and values in one way only, so a promise of what is said determines the answer.
+use mathlib.Core.Path.{_≡_, refl, sym, ap, _∙_}
+use mathlib.Core.List.{List, [], _∷_}
+use Prim.Native.Nat.{ℕ, _-_}
+use lib.ListN.{getD}
+use Rattle.rules.specs.declared.Refusal.{Refusal}
+use Rattle.rules.specs.declared.Refusal.the-variants.{Size, Version, Flags, Count, Range, Unlimited, Crossed, Room, Number}
+use Rattle.rules.specs.declared.Thousandths.{Thousandths}
+use Rattle.rules.specs.declared.Mean.{Mean}
+use Rattle.rules.specs.declared.MeanAnswer.{MeanAnswer}
+use Rattle.rules.specs.declared.DeviationAnswer.{DeviationAnswer}
+use Rattle.rules.specs.declared.Percentages.{Percentages}
+use Rattle.rules.specs.declared.Evaluation.{Evaluation}
+use Rattle.rules.specs.declared.Payment.{Payment}
+use Rattle.rules.specs.declared.PayAnswer.{PayAnswer}
+use Rattle.rules.specs.declared.MixtureLimits.{MixtureLimits}
+use Rattle.rules.specs.declared.MixtureAnswer.{MixtureAnswer}
+use Rattle.rules.specs.declared.Reading.{Reading}
+use Rattle.rules.specs.declared.ReadAnswer.{ReadAnswer}
+use Rattle.rules.specs.declared.WriteAnswer.{WriteAnswer}
+use Rattle.rules.specs.declared.Row.{Row}
+use Rattle.rules.specs.declared.RowAnswer.{RowAnswer}
+use Rattle.rules.specs.Said.{Said, refused, answers}
+use Rattle.rules.specs.Refusals.{number-of}
+use Rattle.rules.specs.Answers.{mean-said, deviation-said, evaluation-said, pay-said, mixture-said, reading-said, ReadSaid, read-said, write-said, row-said}
+
+-- Two that are read alike are one.
+abbrev pub Injective : {A B : Type 0} → (A → B) → Type 0
+Injective {A} f = (x y : A) → f x ≡ f y → x ≡ y
+
+-- what can be read back is read in one way only
+read-back : {A B : Type 0} (f : A → B) (g : B → A) → ((x : A) → g (f x) ≡ x) → Injective f
+read-back f g back x y e = sym (back x) ∙ ap g e ∙ back y
+
+-- the refusal of a number
+refusal : ℕ → Refusal
+refusal k = getD (Size ∷ Version ∷ Flags ∷ Count ∷ Range ∷ Unlimited ∷ Crossed ∷ Room ∷ Number ∷ []) (k - 1) Size
+
+refusal-back : (r : Refusal) → refusal (number-of r) ≡ r
+unfolding refusal
+refusal-back Size = refl
+refusal-back Version = refl
+refusal-back Flags = refl
+refusal-back Count = refl
+refusal-back Range = refl
+refusal-back Unlimited = refl
+refusal-back Crossed = refl
+refusal-back Room = refl
+refusal-back Number = refl
+
+pub number-injective : Injective number-of
+number-injective = read-back number-of refusal refusal-back
+
+-- An answer that is one of two, values or a refusal, is read back by its two cases.
+abbrev read : {A X : Type 0} → (A → X) → (Refusal → X) → Said A → X
+read value other (refused k) = other (refusal k)
+read value other (answers a) = value a
+
+pub mean-injective : Injective mean-said
+mean-injective =
+    read-back mean-said (read MeanAnswer.Answers MeanAnswer.Refused)
+    (elim [ MeanAnswer.Answers a ↦ refl | MeanAnswer.Refused r ↦ ap MeanAnswer.Refused (refusal-back r) ])
+
+pub deviation-injective : Injective deviation-said
+deviation-injective =
+    read-back deviation-said (read DeviationAnswer.Answers DeviationAnswer.Refused)
+    (elim [ DeviationAnswer.Answers a ↦ refl | DeviationAnswer.Refused r ↦ ap DeviationAnswer.Refused (refusal-back r) ])
+
+pub evaluation-injective : Injective evaluation-said
+evaluation-injective =
+    read-back evaluation-said (read Evaluation.Answers Evaluation.Refused)
+    (elim [ Evaluation.Answers a ↦ refl | Evaluation.Refused r ↦ ap Evaluation.Refused (refusal-back r) ])
+
+pub pay-injective : Injective pay-said
+pay-injective =
+    read-back pay-said (read PayAnswer.Answers PayAnswer.Refused)
+    (elim [ PayAnswer.Answers a ↦ refl | PayAnswer.Refused r ↦ ap PayAnswer.Refused (refusal-back r) ])
+
+pub mixture-injective : Injective mixture-said
+mixture-injective =
+    read-back mixture-said (read MixtureAnswer.Answers MixtureAnswer.Refused)
+    (elim [ MixtureAnswer.Answers a ↦ refl | MixtureAnswer.Refused r ↦ ap MixtureAnswer.Refused (refusal-back r) ])
+
+pub write-injective : Injective write-said
+write-injective =
+    read-back write-said (read WriteAnswer.Answers WriteAnswer.Refused)
+    (elim [ WriteAnswer.Answers a ↦ refl | WriteAnswer.Refused r ↦ ap WriteAnswer.Refused (refusal-back r) ])
+
+pub row-injective : Injective row-said
+row-injective =
+    read-back row-said (read RowAnswer.Answers RowAnswer.Refused)
+    (elim [ RowAnswer.Answers a ↦ refl | RowAnswer.Refused r ↦ ap RowAnswer.Refused (refusal-back r) ])
+
+reading-injective : Injective reading-said
+reading-injective =
+    read-back reading-said (read (λ _. Reading.Answers) Reading.Refused)
+    (elim [ Reading.Answers ↦ refl | Reading.Refused r ↦ ap Reading.Refused (refusal-back r) ])
+
+-- and the lot that was read counts as it is
+pub read-injective : Injective read-said
+read-injective x y e =
+    λ i. record { said = reading-injective (x .said) (y .said) (ap (λ (r : ReadSaid). r .said) e) i; lot = e i .lot }

@@ -1,0 +1,7 @@
+pub mod Each
+pub mod Search
+pub mod Table
+pub mod Refusals
+pub mod Answers
+pub mod Deviation
+pub mod Desk

@@ -1,0 +1,11 @@
+-- All that is asked of a column by whatever is shown of lookups.
+use mathlib.Core.Path.{_≡_}
+use mathlib.Core.List.{List}
+use Prim.Native.Nat.{ℕ, _≤_}
+use lib.ListN.{getD}
+use Rattle.rules.specs.Table.{last-row}
+
+pub record Column (column : List ℕ) : Type 0 where
+  pub starts : getD column 0 0 ≡ 5000
+  pub never-falls : (j k : ℕ) → j ≤ k → k ≤ last-row → getD column j 0 ≤ getD column k 0
+  pub ends : getD column last-row 0 ≡ 10000

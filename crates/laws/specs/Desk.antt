@@ -1,0 +1,56 @@
+-- Document 01, "Desk examples": those marked D, as it prints them.
+use mathlib.Core.Path.{_≡_}
+use mathlib.Core.List.{List, [], _∷_}
+use Prim.Native.Nat.{ℕ}
+use mathlib.Core.Bool.{Bool, true}
+use lib.IntN.{ℤ, pos, negℤ}
+use lib.ListN.{length}
+use lib.Signed.{leZ}
+use Rattle.rules.specs.declared.Limit.{Limit}
+use Rattle.rules.specs.declared.Limit.the-variants.{Absent, At}
+use Rattle.rules.specs.declared.Percentages.{Percentages}
+use Rattle.rules.specs.Units.{thousandths}
+use Rattle.rules.specs.Said.{Said, refused, answers}
+use Rattle.rules.specs.Lot.{lot-of}
+use Rattle.rules.specs.Percent.{sum, spread, upper-distance, index-squared, midpoint-squared}
+use Rattle.rules.specs.Entries.{evaluation-says, deviation-says}
+
+pub data Example : Type 0 where
+  -- readings, upper and lower limit, and the PWL in hundredths
+  pwl : List ℤ → Limit → Limit → ℕ → Example
+  -- readings, an upper limit and a row: the index is exactly the midpoint below that row
+  midpoint : List ℤ → ℤ → ℕ → Example
+  -- readings, and the deviation in thousandths
+  deviation : List ℤ → ℕ → Example
+
+abbrev pub at : ℕ → Limit
+at z = At (thousandths (pos z))
+
+abbrev pub Answers : (Percentages → Type 0) → Said Percentages → Type 0
+Answers P (refused k) = ⊥
+Answers P (answers p) = P p
+
+abbrev pub Holds : Example → Type 0
+Holds (pwl xs upper lower expected) =
+    Answers (λ (p : Percentages). p .pwl .0 ≡ pos expected) (evaluation-says (lot-of upper lower xs))
+Holds (midpoint xs upper k) =
+    let n : ℕ = length xs in
+    let d : ℤ = upper-distance n (sum xs) upper in
+    _≡_ {A = Bool × ℤ} (leZ (pos 0) d, index-squared n d) (true, midpoint-squared n (spread n xs) k)
+Holds (deviation xs expected) = deviation-says xs ≡ answers (thousandths (pos expected))
+
+abbrev pub examples : List Example
+examples =
+    pwl (pos 4000 ∷ pos 4000 ∷ []) (at 4000) Absent 10000 ∷  -- D1
+    pwl (pos 4000 ∷ pos 4000 ∷ []) (at 3999) Absent 0 ∷  -- D2
+    pwl (pos 1000 ∷ pos 3000 ∷ []) (at 2000) Absent 5000 ∷  -- D3
+    pwl (pos 1000 ∷ pos 3000 ∷ []) (at 2000) (at 2000) 0 ∷  -- D4
+    midpoint (pos 0 ∷ pos 0 ∷ pos 0 ∷ pos 80 ∷ []) (pos 21) 1 ∷  -- D5: index exactly 0.025, halfway to row 1
+    pwl (pos 0 ∷ pos 0 ∷ pos 0 ∷ pos 80 ∷ []) (at 21) Absent 5167 ∷  -- D5
+    pwl (pos 0 ∷ pos 0 ∷ pos 0 ∷ pos 80 ∷ []) (at 19) Absent 4833 ∷  -- D6
+    pwl (pos 0 ∷ pos 0 ∷ pos 0 ∷ pos 80 ∷ []) (at 20) Absent 5000 ∷  -- D7
+    pwl (pos 0 ∷ pos 0 ∷ pos 0 ∷ pos 80 ∷ []) (at 21) (at 19) 334 ∷  -- D8
+    pwl (pos 0 ∷ pos 1 ∷ []) (at 1) Absent 7249 ∷  -- D9
+    deviation (pos 0 ∷ pos 1 ∷ []) 1 ∷  -- D9
+    deviation (negℤ (pos 500000) ∷ pos 500000 ∷ []) 707107 ∷  -- D10
+    []

@@ -1,0 +1,1 @@
+// Theorems over the definitions of `rules` alone: no function stands here.

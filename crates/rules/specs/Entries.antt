@@ -1,0 +1,104 @@
+-- What each entry says, for whatever comes in: the lowest refusal that applies of those that it can meet, else its values.
+use mathlib.Core.List.{List, _++_, map}
+use Prim.Native.Nat.{ℕ, _-_}
+use lib.IntN.{ℤ, pos}
+use lib.ListN.{length, drop, replicate}
+use Rattle.rules.specs.declared.Thousandths.{Thousandths}
+use Rattle.rules.specs.declared.Limit.{Limit}
+use Rattle.rules.specs.declared.Limit.the-variants.{Absent}
+use Rattle.rules.specs.declared.HeldLot.{HeldLot}
+use Rattle.rules.specs.declared.Mean.{Mean}
+use Rattle.rules.specs.declared.Percentages.{Percentages}
+use Rattle.rules.specs.declared.Payment.{Payment}
+use Rattle.rules.specs.declared.MixtureLimits.{MixtureLimits}
+use Rattle.rules.specs.declared.Row.{Row}
+use Rattle.rules.specs.Units.{thousandths, hundredths}
+use Rattle.rules.specs.Said.{Said, refused, answers, ruled}
+use Rattle.rules.specs.Lot.{Lot, most}
+use Rattle.rules.specs.Table.{Table, table-106-1}
+use Rattle.rules.specs.Percent.{Rule, nearest, sum, spread, upper-side, lower-side, within}
+use Rattle.rules.specs.Deviation.{deviation}
+use Rattle.rules.specs.Pay.{payment}
+use Rattle.rules.specs.Mixture.{mixture-limits}
+use Rattle.rules.specs.Record.{lot-of-record, record-of}
+use Rattle.rules.specs.Refusals.{readings-meet, evaluation-meets, row-meets, reading-meets, writing-meets, pay-meets, mixture-meets}
+use Rattle.rules.specs.Notebook.{lent-lot, row-of}
+use Rattle.rules.specs.Answers.{ReadSaid}
+
+-- ---- mean and deviation
+
+unfoldable pub mean-says : List ℤ → Said Mean
+mean-says xs = ruled (readings-meet xs) (record { total = thousandths (sum xs); count = length xs })
+
+-- s of n readings
+abbrev pub deviation-of : ℕ → List ℤ → ℤ
+deviation-of n xs = pos (deviation n (spread n xs))
+
+unfoldable pub deviation-says : List ℤ → Said Thousandths
+deviation-says xs = ruled (readings-meet xs) (thousandths (deviation-of (length xs) xs))
+
+-- ---- direct evaluation
+
+unfoldable pub percentages : Rule → Table → Lot → Percentages
+percentages rule table lot =
+    let upper : ℤ = upper-side rule table lot (lot .upper) in
+    let lower : ℤ = lower-side rule table lot (lot .lower) in
+    record { upper = hundredths upper; lower = hundredths lower; pwl = hundredths (within upper lower) }
+
+unfoldable pub evaluation-says : Lot → Said Percentages
+evaluation-says lot = ruled (evaluation-meets lot) (percentages nearest table-106-1 lot)
+
+-- ---- the lot record
+
+unfoldable pub reading-says : List ℕ → Said Lot
+reading-says bs = ruled (reading-meets bs) (lot-of-record bs)
+
+-- The lot in memory beside it: zeros in the places past its readings, and one blank lot where the record is refused.
+unfoldable pub held : Said Lot → HeldLot
+held (refused k) = record { upper = Absent; lower = Absent; count = 0; readings = replicate most (thousandths (pos 0)) }
+held (answers lot) =
+    record {
+      upper = lot .upper;
+      lower = lot .lower;
+      count = lot .n;
+      readings = map thousandths (lot .readings) ++ replicate (most - lot .n) (thousandths (pos 0));
+    }
+
+-- whether it was read, or the refusal, beside that lot
+abbrev pub bare : {A : Type 0} → Said A → Said (Unit {0})
+bare (refused k) = refused k
+bare (answers a) = answers tt
+
+abbrev pub reading-leaves : List ℕ → ReadSaid
+reading-leaves bs = record { said = bare (reading-says bs); lot = held (reading-says bs) }
+
+-- the number of bytes written
+unfoldable pub writing-says : Lot → List ℕ → Said ℕ
+writing-says lot out = ruled (writing-meets lot (length out)) (length (record-of lot))
+
+-- The lent bytes after a write: as before where it is refused, else the record and then the old rest.
+unfoldable pub written : List ℕ → List ℕ → Said ℕ → List ℕ
+written bytes out (refused k) = out
+written bytes out (answers size) = bytes ++ drop size out
+
+abbrev pub after-writing : Lot → List ℕ → List ℕ
+after-writing lot out = written (record-of lot) out (writing-says lot out)
+
+-- ---- pay, and limits by mixture
+
+unfoldable pub pay-says : ℤ → ℤ → ℤ → ℤ → ℤ → Said Payment
+pay-says vma voids density price quantity =
+    ruled (pay-meets vma voids density price quantity) (payment vma voids density price quantity)
+
+unfoldable pub mixture-says : ℤ → ℤ → ℤ → Said MixtureLimits
+mixture-says mixture minimum target =
+    ruled (mixture-meets mixture minimum target) (mixture-limits mixture minimum target)
+
+-- ---- the notebook's row
+
+unfoldable pub row-says : Limit → Limit → List ℕ → Said Row
+row-says upper lower bs =
+    let lot : Lot = lent-lot upper lower bs in
+    ruled (row-meets bs lot)
+    (row-of (sum (lot .readings)) (lot .n) (deviation-of (lot .n) (lot .readings))
+    (percentages nearest table-106-1 lot .pwl .0))

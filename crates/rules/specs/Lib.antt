@@ -1,0 +1,14 @@
+-- Document 01 as definitions, a file for each of its sections. This is what a reader must believe.
+pub mod Units
+pub mod Said
+pub mod Lot
+pub mod Table
+pub mod Percent
+pub mod Deviation
+pub mod Pay
+pub mod Mixture
+pub mod Record
+pub mod Refusals
+pub mod Notebook
+pub mod Answers
+pub mod Entries

@@ -1,0 +1,30 @@
+-- A lot: its count n, its limits and its readings.
+use mathlib.Core.List.{List, map}
+use Prim.Native.Nat.{ℕ}
+use lib.IntN.{ℤ}
+use lib.ListN.{length, take}
+use Rattle.rules.specs.declared.Thousandths.{Thousandths}
+use Rattle.rules.specs.declared.Limit.{Limit}
+use Rattle.rules.specs.declared.HeldLot.{HeldLot}
+
+-- the most readings that a lot can hold
+abbrev pub most : ℕ
+most = 10
+
+pub record Lot : Type 0 where
+  pub n : ℕ
+  pub upper : Limit
+  pub lower : Limit
+  pub readings : List ℤ
+
+-- of a list of readings, which are as many as they are
+abbrev pub lot-of : Limit → Limit → List ℤ → Lot
+lot-of upper lower xs = record { n = length xs; upper = upper; lower = lower; readings = xs }
+
+abbrev pub places : HeldLot → List ℤ
+places held = map (λ (x : Thousandths). x .0) (held .readings)
+
+-- of a lot in memory, which says how many of its places are its readings
+abbrev pub lot-in : HeldLot → Lot
+lot-in held =
+    record { n = held .count; upper = held .upper; lower = held .lower; readings = take (held .count) (places held) }

@@ -1,0 +1,42 @@
+-- Document 01, "The notebook": readings as bytes, a limit as a number and a presence, and the row of three doubles.
+use mathlib.Core.Bool.{not}
+use mathlib.Core.List.{List}
+use Prim.Native.Nat.{ℕ, _*_, _/_}
+use lib.Dec.{eqb}
+use lib.IntN.{ℤ, pos}
+use lib.ListN.{length}
+use lib.Ieee as Ieee
+use lib.Ieee.{Float, fin, binary64}
+use mathlib.Core.Bool.{false}
+use Rattle.rules.specs.declared.Limit.{Limit}
+use Rattle.rules.specs.declared.Row.{Row}
+use Rattle.rules.specs.Said.{Said, refused, answers}
+use Rattle.rules.specs.Lot.{Lot}
+use Rattle.rules.specs.Record.{fours, limit-of}
+
+-- presence 0 is absent, its number unread; any other is present
+abbrev pub lent-limit : ℤ → ℕ → Limit
+lent-limit z presence = limit-of (not (eqb presence 0)) z
+
+-- four bytes to each reading
+unfoldable pub lent-lot : Limit → Limit → List ℕ → Lot
+lent-lot upper lower bs =
+    record { n = length bs / 4; upper = upper; lower = lower; readings = fours (length bs / 4) bs }
+
+-- one division of two exactly converted whole numbers
+abbrev pub over : ℤ → ℕ → Float
+over z m = Ieee.div binary64 (Ieee.ofInt binary64 z) (Ieee.ofInt binary64 (pos m))
+
+-- the mean T over 1000·n, the deviation s over 1000 and the percentage over 100
+unfoldable pub row-of : ℤ → ℕ → ℤ → ℤ → Row
+row-of t n s pwl = record { mean = over t (1000 * n); deviation = over s 1000; pwl = over pwl 100 }
+
+-- the refusal, 0 for none
+abbrev pub refusal-asked : {A : Type 0} → Said A → ℕ
+refusal-asked (refused k) = k
+refusal-asked (answers a) = 0
+
+-- a double, 0 of a refused lot
+abbrev pub double-asked : (Row → Float) → Said Row → Float
+double-asked f (refused k) = fin false 0 (pos 0)
+double-asked f (answers row) = f row

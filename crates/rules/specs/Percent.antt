@@ -1,0 +1,81 @@
+-- Document 01, "From readings to PWL", with its letters in lower case: n the count, t the sum, z the sum of squares,
+-- v the spread, d a distance, k a row, e an entry.
+use mathlib.Core.Bool.{Bool, cond, _||_}
+use mathlib.Core.List.{List, [], _∷_}
+use Prim.Native.Nat.{ℕ, zero, suc, _-_, _*_}
+use lib.Dec.{eqb}
+use lib.IntN.{ℤ, pos, _+ℤ_, _-ℤ_, _*ℤ_}
+use lib.Signed.{leZ, ltZ}
+use Rattle.rules.specs.declared.Limit.{Limit}
+use Rattle.rules.specs.declared.Limit.the-variants.{Absent, At}
+use Rattle.rules.specs.Units.{hundred}
+use Rattle.rules.specs.Lot.{Lot}
+use Rattle.rules.specs.Table.{Table, entry, last-row}
+
+-- T
+unfoldable pub sum : List ℤ → ℤ
+sum [] = pos 0
+sum (x ∷ xs) = x +ℤ sum xs
+
+-- Z
+unfoldable pub squares : List ℤ → ℤ
+squares [] = pos 0
+squares (x ∷ xs) = x *ℤ x +ℤ squares xs
+
+-- V = n·Z − T²
+unfoldable pub spread : ℕ → List ℤ → ℤ
+spread n xs = pos n *ℤ squares xs -ℤ sum xs *ℤ sum xs
+
+-- the upper distance D = n·U − T
+abbrev pub upper-distance : ℕ → ℤ → ℤ → ℤ
+upper-distance n t u = pos n *ℤ u -ℤ t
+
+-- the lower distance D = T − n·L
+abbrev pub lower-distance : ℕ → ℤ → ℤ → ℤ
+lower-distance n t l = t -ℤ pos n *ℤ l
+
+-- 1600·(n−1)·D²: the square of the index, times 1600·n·V
+unfoldable pub index-squared : ℕ → ℤ → ℤ
+index-squared n d = pos (1600 * (n - 1)) *ℤ (d *ℤ d)
+
+-- (2k−1)²·n·V: the square of the midpoint below row k, (2k−1)/40, times the same
+unfoldable pub midpoint-squared : ℕ → ℤ → ℕ → ℤ
+midpoint-squared n v k = pos ((2 * k - 1) * (2 * k - 1) * n) *ℤ v
+
+-- k = 0 or 1600·(n−1)·D² ≥ (2k−1)²·n·V
+unfoldable pub admits : ℕ → ℤ → ℤ → ℕ → Bool
+admits n v d k = eqb k 0 || leZ (midpoint-squared n v k) (index-squared n d)
+
+-- the largest number up to a given one that passes, and 0 where none does
+unfoldable pub largest : (ℕ → Bool) → ℕ → ℕ
+largest passes zero = zero
+largest passes (suc k) = cond (passes (suc k)) (suc k) (largest passes k)
+
+-- A rule for rows finds one for n, V and D. The midpoint rule of document 004, squared: the largest k from 0 to 53 that is admitted.
+abbrev pub Rule : Type 0
+Rule = ℕ → ℤ → ℤ → ℕ
+
+unfoldable pub nearest : Rule
+nearest n v d = largest (admits n v d) last-row
+
+module _ (rule : Rule) (table : Table) where
+  -- the percentage of a side, for V above 0 and for V = 0
+  unfoldable pub side : ℕ → ℤ → ℤ → ℤ
+  side n v d =
+      let e : ℤ = pos (entry table n (rule n v d)) in
+      cond (ltZ (pos 0) v) (cond (leZ (pos 0) d) e (hundred -ℤ e)) (cond (leZ (pos 0) d) hundred (pos 0))
+
+  -- an absent limit's side is 10,000
+  unfoldable pub upper-side : Lot → Limit → ℤ
+  upper-side lot Absent = hundred
+  upper-side lot (At u) =
+      side (lot .n) (spread (lot .n) (lot .readings)) (upper-distance (lot .n) (sum (lot .readings)) (u .0))
+
+  unfoldable pub lower-side : Lot → Limit → ℤ
+  lower-side lot Absent = hundred
+  lower-side lot (At l) =
+      side (lot .n) (spread (lot .n) (lot .readings)) (lower-distance (lot .n) (sum (lot .readings)) (l .0))
+
+-- PWL = upper + lower − 10,000
+abbrev pub within : ℤ → ℤ → ℤ
+within upper lower = upper +ℤ lower -ℤ hundred

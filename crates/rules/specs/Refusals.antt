@@ -1,0 +1,164 @@
+-- Document 01, "Numbers of refusal": the table, a definition for each line, and below it what each entry can meet.
+use mathlib.Core.Bool.{Bool, true, false, not, _&&_, _||_}
+use mathlib.Core.List.{List, [], _∷_, _++_}
+use Prim.Native.Nat.{ℕ, _/_, _%_, _-_}
+use lib.Dec.{leb, ltb, eqb}
+use lib.IntN.{ℤ, pos}
+use lib.ListN.{length}
+use lib.Signed.{ltZ}
+use Rattle.rules.specs.declared.Limit.{Limit}
+use Rattle.rules.specs.declared.Limit.the-variants.{Absent, At}
+use Rattle.rules.specs.declared.Refusal.{Refusal}
+use Rattle.rules.specs.declared.Refusal.the-variants.{Size, Version, Flags, Count, Range, Unlimited, Crossed, Room, Number}
+use Rattle.rules.specs.Units.{in-range, hundred}
+use Rattle.rules.specs.Said.{Case}
+use Rattle.rules.specs.Lot.{Lot, most}
+use Rattle.rules.specs.Record.{length-field, version-field, flags-field, n-field, upper-field, lower-field, has-upper, has-lower, length-of, spelled, lot-of-record, record-of}
+use Rattle.rules.specs.Mixture.{Pair, vma, voids}
+
+abbrev pub number-of : Refusal → ℕ
+number-of Size = 1
+number-of Version = 2
+number-of Flags = 3
+number-of Count = 4
+number-of Range = 5
+number-of Unlimited = 6
+number-of Crossed = 7
+number-of Room = 8
+number-of Number = 9
+
+abbrev pub given-when : Refusal → Bool → Case
+given-when refusal applies = record { number = number-of refusal; applies = applies }
+
+-- ---- the table
+
+-- 1: fewer than 13 bytes, or the length isn't the slice's size less 2
+abbrev pub size-case : List ℕ → Case
+size-case bs = given-when Size (ltb (length bs) 13 || not (eqb (length-field bs) (length bs - 2)))
+
+-- 2: version isn't 1
+abbrev pub version-case : List ℕ → Case
+version-case bs = given-when Version (not (eqb (version-field bs) 1))
+
+-- 3: bits 2 to 7 of byte 3 not all 0, or an absent limit's bytes not zero
+abbrev pub flags-case : List ℕ → Case
+flags-case bs =
+    given-when Flags
+    (not (eqb (flags-field bs / 4) 0)
+    || not (has-upper bs || eqb (spelled 0 (upper-field bs)) 0)
+    || not (has-lower bs || eqb (spelled 0 (lower-field bs)) 0))
+
+-- n is 2 to 10
+abbrev pub allowed : ℕ → Bool
+allowed n = leb 2 n && leb n most
+
+-- 4: n not 2 to 10
+abbrev pub count-case : ℕ → Case
+count-case n = given-when Count (not (allowed n))
+
+-- 4, in a record: or the length isn't 11 + 4n
+abbrev pub record-count-case : List ℕ → Case
+record-count-case bs =
+    given-when Count (not (allowed (n-field bs)) || not (eqb (length-field bs) (length-of (n-field bs))))
+
+-- 4, of readings as bytes, four to each: the size isn't 4n for an allowed n
+abbrev pub bytes-count-case : List ℕ → Case
+bytes-count-case bs = given-when Count (not (eqb (length bs % 4) 0) || not (allowed (length bs / 4)))
+
+abbrev pub out-of-range : Limit → Bool
+out-of-range Absent = false
+out-of-range (At z) = not (in-range (z .0))
+
+abbrev pub any-out : List ℤ → Bool
+any-out [] = false
+any-out (x ∷ xs) = not (in-range x) || any-out xs
+
+-- 5: a present limit or a reading out of range
+abbrev pub range-case : Limit → Limit → List ℤ → Case
+range-case upper lower xs = given-when Range (out-of-range upper || out-of-range lower || any-out xs)
+
+abbrev pub none : Limit → Limit → Bool
+none Absent Absent = true
+none Absent (At l) = false
+none (At u) lower = false
+
+-- 6: both limits absent
+abbrev pub unlimited-case : Limit → Limit → Case
+unlimited-case upper lower = given-when Unlimited (none upper lower)
+
+abbrev pub crossed : Limit → Limit → Bool
+crossed Absent lower = false
+crossed (At u) Absent = false
+crossed (At u) (At l) = ltZ (u .0) (l .0)
+
+-- 7: lower above upper
+abbrev pub crossed-case : Limit → Limit → Case
+crossed-case upper lower = given-when Crossed (crossed upper lower)
+
+-- 8: lent output shorter than what is to be written
+abbrev pub room-case : ℕ → ℕ → Case
+room-case room size = given-when Room (ltb room size)
+
+-- a number below 0 or above the most that is taken
+abbrev pub outside : ℤ → ℤ → Bool
+outside most z = ltZ z (pos 0) || ltZ most z
+
+-- 9, in pay: a number below 0, a PWL above 10,000, price above 10,000,000 or quantity above 100,000,000
+abbrev pub pay-case : ℤ → ℤ → ℤ → ℤ → ℤ → Case
+pay-case vma voids density price quantity =
+    given-when Number
+    (outside hundred vma
+    || outside hundred voids
+    || outside hundred density
+    || outside (pos 10000000) price
+    || outside (pos 100000000) quantity)
+
+-- 9, in the mixture lookup: a mixture number not 0 to 3
+abbrev pub mixture-case : ℤ → Case
+mixture-case mixture = given-when Number (outside (pos 3) mixture)
+
+-- 5, in the mixture lookup: a minimum or target that puts a limit out of range
+abbrev pub pair-out : Pair → Bool
+pair-out p = not (in-range (p .upper)) || not (in-range (p .lower))
+
+abbrev pub offset-case : ℤ → ℤ → Case
+offset-case minimum target = given-when Range (pair-out (vma minimum) || pair-out (voids target))
+
+-- ---- what each entry can meet
+
+-- mean and deviation alone: 4 and 5
+unfoldable pub readings-meet : List ℤ → List Case
+readings-meet xs = count-case (length xs) ∷ range-case Absent Absent xs ∷ []
+
+-- what a lot can meet after its count: 5 to 7
+abbrev pub lot-meets : Lot → List Case
+lot-meets lot =
+    range-case (lot .upper) (lot .lower) (lot .readings) ∷
+    unlimited-case (lot .upper) (lot .lower) ∷
+    crossed-case (lot .upper) (lot .lower) ∷
+    []
+
+-- direct evaluation: 4 to 7
+unfoldable pub evaluation-meets : Lot → List Case
+evaluation-meets lot = count-case (lot .n) ∷ lot-meets lot
+
+-- the notebook's row, of readings as bytes: 4 to 7
+unfoldable pub row-meets : List ℕ → Lot → List Case
+row-meets bs lot = bytes-count-case bs ∷ lot-meets lot
+
+-- reading: 1 to 7
+unfoldable pub reading-meets : List ℕ → List Case
+reading-meets bs =
+    size-case bs ∷ version-case bs ∷ flags-case bs ∷ record-count-case bs ∷ lot-meets (lot-of-record bs)
+
+-- writing: 4 to 8
+unfoldable pub writing-meets : Lot → ℕ → List Case
+writing-meets lot room = count-case (lot .n) ∷ lot-meets lot ++ (room-case room (length (record-of lot)) ∷ [])
+
+-- pay: 9
+unfoldable pub pay-meets : ℤ → ℤ → ℤ → ℤ → ℤ → List Case
+pay-meets vma voids density price quantity = pay-case vma voids density price quantity ∷ []
+
+-- the mixture lookup: 5 and 9
+unfoldable pub mixture-meets : ℤ → ℤ → ℤ → List Case
+mixture-meets mixture minimum target = offset-case minimum target ∷ mixture-case mixture ∷ []

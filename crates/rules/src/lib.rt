@@ -1,0 +1,171 @@
+// The words of document 01: units, limits, refusals, lots and answers. What is right of them is in specs/; the crates above compute it.
+ghost use mathlib.Core.Path.{_≡_};
+ghost use Rattle.rules.specs.Refusals.{number-of};
+
+// The most readings that a lot can hold.
+pub const MOST: usize = 10;
+
+// Thousandths, whole: a reading, a limit, a sum of readings, a deviation.
+pub struct Thousandths(pub i32);
+
+// A percentage in hundredths.
+pub struct Hundredths(pub i64);
+
+// The pay factor of one characteristic, in 200ths of a percent.
+pub struct TwoHundredths(pub i64);
+
+// A composite pay factor, in thousandths.
+pub struct Composite(pub i64);
+
+// A sum of money.
+pub struct Cents(pub i64);
+
+// A quantity, in hundredths of a ton.
+pub struct Tons(pub i64);
+
+pub enum Limit {
+    Absent,
+    At(Thousandths),
+}
+
+// Why an entry does not answer. The numbers are document 01's.
+pub enum Refusal {
+    // 1: too few bytes, or the length does not fit the slice
+    Size,
+    // 2: another version
+    Version,
+    // 3: unknown flags, or bytes for an absent limit
+    Flags,
+    // 4: too few or too many readings
+    Count,
+    // 5: a limit or a reading out of range
+    Range,
+    // 6: no limit at all
+    Unlimited,
+    // 7: the lower limit above the upper
+    Crossed,
+    // 8: no room for what is to be written
+    Room,
+    // 9: a number that pay or the mixture lookup does not take
+    Number,
+}
+
+impl Refusal {
+    pub fn number(self) -> u32
+        ensures { λ r. ⌜ r ≡ number-of self ⌝ }
+    {
+        match self {
+            Refusal::Size => 1,
+            Refusal::Version => 2,
+            Refusal::Flags => 3,
+            Refusal::Count => 4,
+            Refusal::Range => 5,
+            Refusal::Unlimited => 6,
+            Refusal::Crossed => 7,
+            Refusal::Room => 8,
+            Refusal::Number => 9,
+        }
+    }
+}
+
+// A lot in memory: the first `count` readings are its own. Any numbers may stand here; the entries that take one refuse what is no lot.
+pub struct HeldLot {
+    pub upper: Limit,
+    pub lower: Limit,
+    pub count: u32,
+    pub readings: [Thousandths; MOST],
+}
+
+// The mean, unrounded: the sum of the readings and their count.
+pub struct Mean {
+    pub total: Thousandths,
+    pub count: u32,
+}
+
+pub enum MeanAnswer {
+    Answers(Mean),
+    Refused(Refusal),
+}
+
+pub enum DeviationAnswer {
+    Answers(Thousandths),
+    Refused(Refusal),
+}
+
+// The percentage of each side, and percent within limits.
+pub struct Percentages {
+    pub upper: Hundredths,
+    pub lower: Hundredths,
+    pub pwl: Hundredths,
+}
+
+pub enum Evaluation {
+    Answers(Percentages),
+    Refused(Refusal),
+}
+
+pub enum Verdict {
+    Accepted,
+    Rejected,
+}
+
+// The verdict on each characteristic and on the lot, and what is paid either way.
+pub struct Payment {
+    pub composite: Composite,
+    pub vma: Verdict,
+    pub voids: Verdict,
+    pub density: Verdict,
+    pub lot: Verdict,
+    pub pay: Cents,
+}
+
+pub enum PayAnswer {
+    Answers(Payment),
+    Refused(Refusal),
+}
+
+pub struct Limits {
+    pub lower: Thousandths,
+    pub upper: Thousandths,
+}
+
+// The limits of the three characteristics of a mixture.
+pub struct MixtureLimits {
+    pub vma: Limits,
+    pub voids: Limits,
+    pub density: Limits,
+}
+
+pub enum MixtureAnswer {
+    Answers(MixtureLimits),
+    Refused(Refusal),
+}
+
+// An enum holds no array, so the lot that was read stands beside what is said of it: blank where it is refused.
+pub enum Reading {
+    Answers,
+    Refused(Refusal),
+}
+
+pub struct ReadAnswer {
+    pub said: Reading,
+    pub lot: HeldLot,
+}
+
+// The number of bytes written.
+pub enum WriteAnswer {
+    Answers(usize),
+    Refused(Refusal),
+}
+
+// The notebook's row of an accepted lot.
+pub struct Row {
+    pub mean: f64,
+    pub deviation: f64,
+    pub pwl: f64,
+}
+
+pub enum RowAnswer {
+    Answers(Row),
+    Refused(Refusal),
+}

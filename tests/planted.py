@@ -1,0 +1,90 @@
+"""Wrong rules, planted in one crate, that the laws of another must refuse.
+
+An edit is a file must-fail/LABEL.edit at the root: a comment that says which wrong rule it plants,
+`check: CRATE` that must refuse it, `refused: FILE` in which the first law falls, and rt's own lines
+`file:`, `old:`, `new:`, with paths from the root. `python3 tests/planted.py [LABEL..]` tries them.
+"""
+import os
+import re
+import shutil
+import subprocess
+import sys
+import tempfile
+from pathlib import Path
+
+from edits import edited, first_refusal, not_a_fact, read_edit
+
+ROOT = Path(__file__).resolve().parent.parent
+
+
+def edits(root):
+    """The edits of a repository."""
+    return sorted((root / "must-fail").glob("*.edit"))
+
+
+def copy(root, to):
+    """Copies the crates and what is proved of them, so that only what an edit reaches is proved again."""
+    shutil.copy(root / "crates.txt", to)
+    for part in "crates", "target/rlib", "target/stamp":
+        if (root / part).exists():
+            shutil.copytree(root / part, to / part, symlinks=True)
+
+
+def check(crate, where):
+    """Runs `rt check` in a folder: its exit status, what it writes, and the crate's log."""
+    # one job each, since two edits are tried at a time
+    done = subprocess.run(["rt", "check", crate], cwd=where, env=dict(os.environ, RT_JOBS="1"), stdin=subprocess.DEVNULL,
+                          stdout=subprocess.PIPE, stderr=subprocess.STDOUT, encoding="utf-8", errors="replace")
+    log = where / "target/log" / f"{crate}.say"
+    return done.returncode, done.stdout, log.read_text("utf-8", "replace") if log.exists() else ""
+
+
+def judged(crate, word, places, where):
+    """Why the check of a copy, edited at `places`, is not a law's refusal; empty where it is."""
+    status, said, log = check(crate, where)
+    for other in sorted({place.split("/")[1] for place in places} - {crate}):
+        if not re.search(rf"^rt: {other} proved \(", said, re.M):
+            return f"{other}, the edited crate, is itself not proved:\n{said[-2000:]}"
+    if re.search(rf"^rt: {crate} proved \(", said, re.M):
+        return f"NOT REFUSED: {crate} is still proved"
+    if status != 1 or not re.search(rf"^rt: {crate} NOT PROVED \(exit 1,", said, re.M):
+        return f"{crate} was not refused by the prover (exit {status}):\n{said[-2000:]}"
+    if why := not_a_fact(log, places):
+        return f"{crate} is not refused for a fact: {why}"
+    file = first_refusal(log).split(":")[0]
+    if word not in Path(os.path.relpath(file, where / "crates" / crate)).with_suffix("").parts:
+        return f"the first refusal is in {os.path.relpath(file, where)}, and not in {word}"
+    return ""
+
+
+def plant(root, file):
+    """Tries one edit: why it is not refused as it must be; empty where it is."""
+    comment, words, changes = read_edit(file)
+    if not (comment and words.get("check") and words.get("refused")):
+        return "it wants a comment that says what it plants, a line `check: CRATE` and a line `refused: FILE`"
+    with tempfile.TemporaryDirectory() as folder:
+        where = Path(folder).resolve()
+        copy(root, where)
+        try:
+            texts, places = edited(where, changes)
+        except ValueError as error:
+            return f"BAD EDIT: {error}"
+        if not all(re.match(r"crates/\w+/(?:src|specs)/", path) for path in texts):
+            return "BAD EDIT: it may change only src/ and specs/ of a crate"
+        for path, text in texts.items():
+            (where / path).write_text(text, "utf-8")
+        return judged(words["check"], words["refused"], places, where)
+
+
+def main():
+    bad = False
+    for file in edits(ROOT):
+        if file.stem in sys.argv[1:] or not sys.argv[1:]:
+            why = plant(ROOT, file)
+            print(f"{file.stem}: {why or 'refused, as it must be'}", flush=True)
+            bad = bad or bool(why)
+    sys.exit(bad)
+
+
+if __name__ == "__main__":
+    main()

@@ -1,0 +1,260 @@
+"""The tree passes each rule of the audit, and each rule sees the faults that it is there for."""
+import tempfile
+import unittest
+from pathlib import Path
+
+import audit
+
+ROOT = Path(__file__).resolve().parent.parent
+
+LIB = "crates/toy/src/lib.rt"
+INNER = "crates/toy/src/inner.rt"
+SPEC = "crates/toy/specs/Sum.antt"
+PROOF = "crates/toy/proofs/Laws.antt"
+EDIT = "crates/toy/must-fail/one_more.edit"
+OTHER = "crates/toy/must-fail/one_less.edit"
+LOG = "target/must-fail/toy/one_more/.log"
+PROMISES = "docs/PROMISES.md"
+HERE = "/x/target/must-fail/toy/one_more/"
+
+TREE = {
+    LIB: '''// A toy: pub fn in_a_comment() {}
+ghost use mathlib.Core.Path.{_≡_};
+ghost use Prim.Native.Nat.{
+    _<_,
+    _+_,
+};
+ghost use Rattle.toy.specs.Sum.{total};
+ghost use lib.Ieee as Ieee;
+
+mod inner;
+
+pub struct Pair(u8, u8);
+
+impl Pair {
+    // The first. {
+    pub fn first(self) -> u8
+        ensures { λ r. ⌜ r ≡ total {x = self .0} ⌝ }
+    {
+        inner::kept(self.0)
+    }
+}
+
+fn own(x: [u8; 4]) -> u8
+    requires { ⌜ x < 3 ⌝ }
+{
+    let s = b"}}pub fn quoted() {";
+    x[0]
+}
+
+#[no_mangle]
+pub extern "C" fn toy_mean(x: &[u8; 4], n: usize) -> u8
+    ensures count { λ r. do
+        n ← ⟦x.len()⟧ .entry; ⌜ r ≡ n ⌝ }
+    ensures { λ r. ⌜ r ≡ r ⌝ }
+{
+    if n == b'}' as usize { 1 } else { 2 }
+}
+''',
+    INNER: '''// Inner: `Pair::first` keeps what it asks.
+pub fn kept(x: u8) -> u8
+    requires { ⌜ x < 3 ⌝ }
+    ensures { λ r. ⌜ r ≡ x ⌝ }
+{
+    x
+}
+
+pub(crate) fn quiet(x: u8) -> u8 {
+    x
+}
+''',
+    SPEC: '''-- What is added up? {- no comment opens here
+{- length : ℕ
+   {- ?hole -} {! probe !} -}
+use Prim.Native.Nat.{ℕ, _+_, suc}
+use mathlib.Core.List.{List, [], _∷_}
+use lib.ListN.{length, getD as at, getElem?}
+use Rattle.toy.specs.Other as T
+
+pub record Sums : Type 0 where
+  pub T : ℕ
+  pub length : ℕ
+
+unfoldable pub total : List ℕ → ℕ
+total [] = 0
+total (T ∷ xs) = T + total xs
+
+what? : (T : ℕ) → getElem? T
+what? T = "-- ?"
+''',
+    PROOF: '''-- Laws of the sum.
+use Rattle.toy.specs.Sum.{total}
+
+module _ (n : ℕ) where
+  pub law : total n ≡ n
+  law = let pos : ℕ = 3 in refl
+''',
+    PROMISES: '''# Promises
+
+| entry | definition | promise | must-fail edits |
+|---|---|---|---|
+| `toy::Pair::first` | total | it is the first | one_more |
+| `toy::toy_mean` | total | it is the mean | one_more |
+
+| other | table |
+|---|---|
+| `toy::none` | not an entry |
+''',
+    EDIT: "# the mean is one too large\nfile: src/lib.rt\nold: { 1 }\nnew: { 2 }\n",
+    OTHER: "# the mean is one too small\nfile: src/lib.rt\nold: { 1 }\nnew: { 0 }\n",
+    LOG: f'''{HERE}proofs/Laws.antt:6:7: error: `law`: computed as far as they go, the two types differ
+  `κs` is not in scope here, so what is shown does not paste back as it stands
+{HERE}proofs/Laws.antt:9:7: error: `spec`: `law` was not admitted (it has holes), so this cannot be checked
+fn toy::toy_mean: not proved
+logic=not-proved
+''',
+    LOG.replace("more", "less"): '''note: /x/src/lib.rt:27:1: it is not proved that what the function ensures holds when it returns
+    returns c = ?
+logic=not-proved
+''',
+}
+
+# A fault: the rule that sees it, the file that it is in, and what is put there in the place of what.
+MEAN, FIRST = "    ensures count {", "pub fn first(self) -> u8\n        ensures {"
+ENSURES = TREE[LIB][TREE[LIB].index(MEAN):TREE[LIB].index("{\n    if n ==")]
+LAW = f"{HERE}proofs/Laws.antt:6:7: error: `law`: computed as far as they go, the two types differ"
+FAULTS = {
+    "promises_are_made": {
+        "a_function": (INNER, "    ensures { λ r. ⌜ r ≡ x ⌝ }\n", ""),
+        "a_method": (LIB, "        ensures { λ r. ⌜ r ≡ total {x = self .0} ⌝ }\n", ""),
+        "in_a_comment": (INNER, "    ensures {", "    // ensures {"),
+        "a_constant_function": (INNER, "pub(crate) fn", "pub const fn"),
+        "a_deep_module": ("crates/toy/src/a/mod.rt", None, "pub fn deep() {}\n"),
+        "an_export": (LIB, ENSURES, ""),
+    },
+    "entries_ask_nothing": {
+        "an_export": (LIB, MEAN, "    requires { ⌜ n < 3 ⌝ }\n" + MEAN),
+        "a_method": (LIB, FIRST, FIRST.replace("ensures", "requires {\n ⌜ 1 < 2 ⌝ }\n        ensures")),
+        "an_entry": (PROMISES, "\n\n| other", "\n| `toy::inner::kept` | | | |\n\n| other"),
+        "an_entry_passed_on": (PROMISES, "\n\n| other", "\n| `toy::kept` | | | |\n\n| other"),
+    },
+    "entries_exist": {
+        "a_function": (PROMISES, "\n\n| other", "\n| `toy::none` | | | |\n\n| other"),
+        "a_private_function": (PROMISES, "\n\n| other", "\n| `toy::own` | | | |\n\n| other"),
+        "another_crate": (PROMISES, "\n\n| other", "\n| `boy::kept` | | | |\n\n| other"),
+        "another_type": (PROMISES, "`toy::Pair::first`", "`toy::Pear::first`"),
+    },
+    "exports_are_entries": {
+        "a_row_that_is_missing": (PROMISES, "| `toy::toy_mean` | total | it is the mean | one_more |\n", ""),
+        "a_row_with_no_code": (PROMISES, "| `toy::toy_mean` |", "| toy::toy_mean |"),
+    },
+    "symbols_mean_the_librarys": {
+        "a_declaration": (SPEC, "what? :", "abbrev pub length : ℕ → ℕ\nwhat? :"),
+        "an_operator": (SPEC, "what? :", "_≡_ {ℓ} : Type ℓ\nwhat? :"),
+        "an_escaped_name": (SPEC, "what? :", "«take» : ℕ → ℕ\nwhat? :"),
+        "in_a_section": (PROOF, "  pub law :", "  _≤_ : ℕ → ℕ → Type 0\n  pub law :"),
+        "a_parameter": (PROOF, "(n : ℕ)", "(_<_ n : ℕ)"),
+        "a_type": (SPEC, "record Sums", "record ℤ"),
+        "a_data_type": (SPEC, "pub record Sums", "data List"),
+        "renamed": (SPEC, "getD as at", "getD as take"),
+        "renamed_from_ours": (PROOF, "{total}", "{total as _+_}"),
+        "from_ours": (PROOF, "{total}", "{total, map}"),
+        "from_below_ours": (PROOF, "Sum.{total}", "{Sum.total, Sum.map}"),
+        "from_a_likeness": (SPEC, "use lib.ListN", "use libs.ListN"),
+        "ghost_renamed": (LIB, "    _+_,", "    _*_ as _+_,"),
+        "ghost_from_ours": (LIB, "Sum.{total}", "Sum.{\n    total,\n    length,\n}"),
+        "a_module_as_the_library": (SPEC, "specs.Other as T", "specs.Other as mathlib"),
+        "a_module_named_as_the_library": (SPEC, "specs.Other as T", "specs.lib"),
+        "a_child_named_as_the_library": (SPEC, "use Rattle.toy.specs.Other as T", "pub mod lib"),
+        "ghost_module": (LIB, "ghost use lib.Ieee as Ieee", "ghost use Rattle.toy as lib"),
+    },
+    "no_hole_is_left": {
+        "a_hole": (PROOF, "in refl", "in ?"),
+        "a_named_hole": (PROOF, "in refl", "in f (?here)"),
+        "a_probe": (PROOF, "in refl", "in {! refl !}"),
+        "in_a_definition": (SPEC, "total [] = 0", "total [] = ?0"),
+    },
+    "edits_are_refused_for_a_fact": {
+        "no_log": (LOG, TREE[LOG], None),
+        "not_refused": (LOG, "logic=not-proved", "logic=proved functions=1"),
+        "not_compiled": (LOG, TREE[LOG], f"{HERE}src/lib.rt:29:11: error[unclosed-delimiter]: unclosed delimiter `[`\n"),
+        "an_unfit_proof": (LOG, LAW, f"{HERE}proofs/f/Proof.antt:2:2: error: `a`: `tie.Need-a`: module `Tie` has no `Need-a` that can be named from here"),
+        "a_field_that_is_gone": (LOG, LAW, f"{HERE}proofs/f/Proof.antt:2:2: error: `returns`: record `Lts.Then1` has no field `args`"),
+        "a_function_that_is_gone": (LOG, LAW, f"{HERE}proofs/f/Proof.antt: error: `toy` has no function `f` for this file to be the proof of"),
+        "a_fact_that_is_not_asked": (LOG, LAW, f"{HERE}proofs/f/Proof.antt:2:2: error: `f-spec`: expected type `tie.Need-add`, but this has type `tie.Need-returns`"),
+        "a_loop_that_is_new": (LOG, LAW, f"{HERE}proofs/f/Proof.antt:2:2: error: `returns`: expected a type, but `tie.Need-returns` has type `tie.InvT-loop → Type 0`"),
+        "a_case_that_is_gone": (LOG, LAW, f"{HERE}specs/Sum.antt:8:1: error: `total`: `total` has no clause for 1 case; the missing clause is:"),
+        "an_unknown_module": (LOG, LAW, f"{HERE}proofs/Laws.antt:2:2: error: module `lib` has no `Dex` that can be named from here"),
+        "an_unknown_name": (LOG, LAW, f"{HERE}specs/Sum.antt:12:42: error: `total`: `nope` is not in scope"),
+        "a_text_that_cannot_be_read": (LOG, LAW, f"{HERE}specs/Sum.antt:13:1: error: the `(` at 12:36 is never closed (reached end of file)"),
+        "a_contract_that_is_ill_formed": (LOG, LAW, f"{HERE}src/lib.rt:27:26: error: `ensures-1`: expected type `ℕ`, but this has type `ℕ → ℕ`"),
+        "nothing_tried": (LOG, LAW, f"{HERE}specs/Sum.antt:11:12: `total` is not admitted: has-holes"),
+        "an_old_text_that_is_not_there": (EDIT, "old: { 1 }", "old: { 7 }"),
+        "no_replacement": (EDIT, "old: { 1 }\nnew: { 2 }\n", ""),
+        "a_definition_that_is_ill_formed": (EDIT, "src/lib.rt\nold: { 1 }\nnew: { 2 }", "proofs/Laws.antt\nold: let pos\nnew: let not"),
+    },
+    "edits_say_what_they_plant": {
+        "no_comment": (EDIT, "# the mean is one too large\n", ""),
+        "an_empty_comment": (EDIT, "# the mean is one too large\n", "#\n"),
+        "a_comment_at_the_end": (EDIT, TREE[EDIT], TREE[EDIT].split("\n", 1)[1] + TREE[EDIT].split("\n", 1)[0]),
+    },
+    "edits_differ": {
+        "the_same_text": (EDIT, "new: { 2 }", "new: { 0 }"),
+        "the_same_change": (EDIT, "old: { 1 }\nnew: { 2 }", "old: as usize { 1 }\nnew: as usize { 0 }"),
+    },
+}
+
+
+class Tree(unittest.TestCase):
+    """The tree as it is."""
+
+
+class Faults(unittest.TestCase):
+    """A small tree with a fault: one rule complains, and no other."""
+
+    def complaining(self, tree):
+        """The names of the rules that complain of a tree."""
+        with tempfile.TemporaryDirectory() as folder:
+            root = Path(folder)
+            for name, text in tree.items():
+                (root / name).parent.mkdir(parents=True, exist_ok=True)
+                (root / name).write_text(text, "utf-8")
+            return [rule.__name__ for rule in audit.RULES if rule(root)]
+
+    def test_none(self):
+        self.assertEqual(self.complaining(TREE), [])
+
+    def test_every_rule_has_a_fault(self):
+        self.assertEqual(sorted(FAULTS), sorted(rule.__name__ for rule in audit.RULES))
+
+    def test_no_promises(self):
+        self.assertIn("entries_exist", self.complaining({**TREE, PROMISES: "# Promises\n"}))
+
+
+def passes(rule):
+    def test(self):
+        if found := rule(ROOT):
+            self.fail("\n".join([rule.__doc__, *found]))
+    return test
+
+
+def sees(rule, name, old, new):
+    def test(self):
+        tree = dict(TREE)
+        if old is not None:
+            self.assertEqual(tree[name].count(old), 1)
+        tree[name] = new if old is None else tree[name].replace(old, new or "")
+        if new is None:
+            del tree[name]
+        self.assertEqual(self.complaining(tree), [rule])
+    return test
+
+
+for each in audit.RULES:
+    setattr(Tree, f"test_{each.__name__}", passes(each))
+for each, faults in FAULTS.items():
+    for label, fault in faults.items():
+        setattr(Faults, f"test_{each}_{label}", sees(each, *fault))
+
+if __name__ == "__main__":
+    unittest.main()

@@ -181,13 +181,18 @@ def declared(text):
         yield from (name for name in names.split() if "_" in name)
 
 
+def texts(root):
+    """Each text of ours, with the keyword by which it brings names."""
+    for place, text in antt_files(root):
+        yield place, text, "use"
+    for file in sorted(root.glob("crates/*/src/**/*.rt")):
+        yield file.relative_to(root), plain_rattle(file.read_text("utf-8")), r"ghost\s+use"
+
+
 def symbols_mean_the_librarys(root):
     """No text of ours gives a symbol of the library a meaning of its own."""
     found = []
-    texts = [(place, text, "use") for place, text in antt_files(root)]
-    texts += [(file.relative_to(root), plain_rattle(file.read_text("utf-8")), r"ghost\s+use")
-              for file in sorted(root.glob("crates/*/src/**/*.rt"))]
-    for place, text, keyword in texts:
+    for place, text, keyword in texts(root):
         items, modules = brought(text, keyword)
         names = [name for path, name in items
                  if name in LIBRARY and not re.fullmatch(SOURCE + r"(?:.*\.)?" + re.escape(name), path)]
@@ -197,6 +202,19 @@ def symbols_mean_the_librarys(root):
             names += [name for name in declared(text) if name in LIBRARY]
             names += [name for name in re.findall(r"(?m)^\s*(?:pub\s+)?mod\s+(\S+)", text) if name in ROOTS]
         found += [f"{place}: it gives `{name}`, a name of the library's, a meaning of its own" for name in names]
+    return found
+
+
+def imports_are_used(root):
+    """Whatever a `use` line brings is named below it."""
+    found = []
+    for place, text, keyword in texts(root):
+        rest = re.sub(rf"(?m)^\s*{keyword}\s[^{{;\n]*(?:\{{[^}}]*\}})?[^\n]*", "", text)
+        tokens = set(re.findall(NAME, rest))
+        for _, name in sum(brought(text, keyword), []):
+            # an operator is written by its parts, or whole
+            if name not in tokens and not all(part in tokens for part in name.split("_") if part):
+                found.append(f"{place}: `{name}` is brought and not used")
     return found
 
 
@@ -241,7 +259,7 @@ def edits_differ(root):
 
 
 RULES = [promises_are_made, entries_ask_nothing, entries_exist, exports_are_entries, symbols_mean_the_librarys,
-         no_hole_is_left, edits_are_refused_for_a_fact, edits_say_what_they_plant, edits_differ]
+         imports_are_used, no_hole_is_left, edits_are_refused_for_a_fact, edits_say_what_they_plant, edits_differ]
 
 
 def main():

@@ -53,10 +53,10 @@ NO_FACT = (
 FOLLOWS = re.compile(r"` was not admitted \(|` cannot be unfolded because it was not admitted")
 
 
-def first_refusal(log):
-    """The place of the first error of a log, or, where the prover wrote the proof, of the first fact left."""
-    first = re.search(r"^(\S+): error: ", log, re.M) or re.search(r"^note: (\S+:\d+:\d+): ", log, re.M)
-    return first[1] if first else ""
+def refusals(log):
+    """The places of the errors of a log but those that follow from another; or, where the prover wrote the proof, of the facts left."""
+    errors = re.findall(r"^((\S+): error: .*)", log, re.M)
+    return [place for error, place in errors if not FOLLOWS.search(error)] or re.findall(r"^note: (\S+:\d+:\d+): ", log, re.M)
 
 
 def not_a_fact(log, places=()):
@@ -68,8 +68,9 @@ def not_a_fact(log, places=()):
         for error in errors:
             if re.search(pattern, error):
                 return f"{words}: {error[:300]}"
-    if any("/" + place in first_refusal(log) + ":" for place in places if ".antt:" in place):
-        return f"the edited text is itself ill-formed: {first_refusal(log)}"
+    first = (refusals(log) or [""])[0]
+    if any("/" + place in first + ":" for place in places if ".antt:" in place):
+        return f"the edited text is itself ill-formed: {first}"
     if all(map(FOLLOWS.search, errors)) and "it is not proved that" not in log:
         return "no fact was tried"
     return ""

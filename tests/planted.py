@@ -1,7 +1,7 @@
 """Wrong rules, planted in one crate, that the laws of another must refuse.
 
 An edit is a file must-fail/LABEL.edit at the root: a comment that says which wrong rule it plants,
-`check: CRATE` that must refuse it, `refused: FILE` in which the first law falls, and rt's own lines
+`check: CRATE` that must refuse it, `refused: FILE` in which a law falls, and rt's own lines
 `file:`, `old:`, `new:`, with paths from the root. `python3 tests/planted.py [LABEL..]` tries them.
 """
 import os
@@ -12,7 +12,7 @@ import sys
 import tempfile
 from pathlib import Path
 
-from edits import edited, first_refusal, not_a_fact, read_edit
+from edits import edited, not_a_fact, read_edit, refusals
 
 ROOT = Path(__file__).resolve().parent.parent
 
@@ -51,9 +51,9 @@ def judged(crate, word, places, where):
         return f"{crate} was not refused by the prover (exit {status}):\n{said[-2000:]}"
     if why := not_a_fact(log, places):
         return f"{crate} is not refused for a fact: {why}"
-    file = first_refusal(log).split(":")[0]
-    if word not in Path(os.path.relpath(file, where / "crates" / crate)).with_suffix("").parts:
-        return f"the first refusal is in {os.path.relpath(file, where)}, and not in {word}"
+    files = {os.path.relpath(place.split(":")[0], where / "crates" / crate) for place in refusals(log)}
+    if not any(word in Path(file).with_suffix("").parts for file in files):
+        return f"what is refused is in {', '.join(sorted(files))}, and not in {word}"
     return ""
 
 

@@ -51,7 +51,7 @@ fn own(x: [u8; 4]) -> u8
 pub extern "C" fn toy_mean(x: &[u8; 4], n: usize) -> u8
     ensures count { λ r. do
         n ← ⟦x.len()⟧ .entry; ⌜ r ≡ n ⌝ }
-    ensures { λ r. ⌜ r ≡ r ⌝ }
+    ensures { λ r. ⌜ Ieee.same r (r + r) ⌝ }
 {
     if n == b'}' as usize { 1 } else { 2 }
 }
@@ -71,7 +71,7 @@ pub(crate) fn quiet(x: u8) -> u8 {
     SPEC: '''-- What is added up? {- no comment opens here
 {- length : ℕ
    {- ?hole -} {! probe !} -}
-use Prim.Native.Nat.{ℕ, _+_, suc}
+use Prim.Native.Nat.{ℕ, _+_}
 use mathlib.Core.List.{List, [], _∷_}
 use lib.ListN.{length, getD as at, getElem?}
 use Rattle.toy.specs.Other as T
@@ -84,7 +84,7 @@ unfoldable pub total : List ℕ → ℕ
 total [] = 0
 total (T ∷ xs) = T + total xs
 
-what? : (T : ℕ) → getElem? T
+what? : (T : ℕ) → getElem? T at
 what? T = "-- ?"
 ''',
     PROOF: '''-- Laws of the sum.
@@ -168,6 +168,13 @@ FAULTS = {
         "a_child_named_as_the_library": (SPEC, "use Rattle.toy.specs.Other as T", "pub mod lib"),
         "ghost_module": (LIB, "ghost use lib.Ieee as Ieee", "ghost use Rattle.toy as lib"),
     },
+    "imports_are_used": {
+        "a_name": (PROOF, "{total}", "{total, totals}"),
+        "an_operator": (SPEC, "{ℕ, _+_}", "{ℕ, _+_, _*_}"),
+        "renamed": (SPEC, "getD as at", "getD as nth"),
+        "a_module": (SPEC, "specs.Other as T", "specs.Other as other"),
+        "ghost": (LIB, "    _+_,", "    _+_,\n    _*_,"),
+    },
     "no_hole_is_left": {
         "a_hole": (PROOF, "in refl", "in ?"),
         "a_named_hole": (PROOF, "in refl", "in f (?here)"),
@@ -203,6 +210,10 @@ FAULTS = {
         "the_same_change": (EDIT, "old: { 1 }\nnew: { 2 }", "old: as usize { 1 }\nnew: as usize { 0 }"),
     },
 }
+
+
+# The rules that see no other rule's fault; what a fault brings is seldom used, so one does.
+SHARP = [each for each in FAULTS if each != "imports_are_used"]
 
 
 class Tree(unittest.TestCase):
@@ -246,7 +257,8 @@ def sees(rule, name, old, new):
         tree[name] = new if old is None else tree[name].replace(old, new or "")
         if new is None:
             del tree[name]
-        self.assertEqual(self.complaining(tree), [rule])
+        complaining = [each for each in self.complaining(tree) if each in (rule, *SHARP)]
+        self.assertEqual(complaining, [rule])
     return test
 
 

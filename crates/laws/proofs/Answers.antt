@@ -1,28 +1,21 @@
 -- Each answer is read as the paper's number and values in one way only, so a promise of what is said determines the answer.
 use mathlib.Core.Path.{_≡_, refl, sym, ap, _∙_}
-use mathlib.Core.List.{List, [], _∷_}
+use mathlib.Core.List.{[], _∷_}
 use Prim.Native.Nat.{ℕ, _-_}
 use lib.ListN.{getD}
 use Rattle.rules.specs.declared.Refusal.{Refusal}
 use Rattle.rules.specs.declared.Refusal.the-variants.{Size, Version, Flags, Count, Range, Unlimited, Crossed, Room, Number}
-use Rattle.rules.specs.declared.Thousandths.{Thousandths}
-use Rattle.rules.specs.declared.Mean.{Mean}
 use Rattle.rules.specs.declared.MeanAnswer.{MeanAnswer}
 use Rattle.rules.specs.declared.DeviationAnswer.{DeviationAnswer}
-use Rattle.rules.specs.declared.Percentages.{Percentages}
 use Rattle.rules.specs.declared.Evaluation.{Evaluation}
-use Rattle.rules.specs.declared.Payment.{Payment}
 use Rattle.rules.specs.declared.PayAnswer.{PayAnswer}
-use Rattle.rules.specs.declared.MixtureLimits.{MixtureLimits}
 use Rattle.rules.specs.declared.MixtureAnswer.{MixtureAnswer}
-use Rattle.rules.specs.declared.Reading.{Reading}
-use Rattle.rules.specs.declared.ReadAnswer.{ReadAnswer}
+use Rattle.rules.specs.declared.ReadOutcome.{ReadOutcome}
 use Rattle.rules.specs.declared.WriteAnswer.{WriteAnswer}
-use Rattle.rules.specs.declared.Row.{Row}
 use Rattle.rules.specs.declared.RowAnswer.{RowAnswer}
 use Rattle.rules.specs.Said.{Said, refused, answers}
 use Rattle.rules.specs.Refusals.{number-of}
-use Rattle.rules.specs.Answers.{mean-said, deviation-said, evaluation-said, pay-said, mixture-said, reading-said, ReadSaid, read-said, write-said, row-said}
+use Rattle.rules.specs.Answers.{mean-said, deviation-said, evaluation-said, pay-said, mixture-said, read-outcome-said, ReadSaid, read-said, write-said, row-said}
 
 -- Two that are read alike are one.
 abbrev pub Injective : {A B : Type 0} → (A → B) → Type 0
@@ -91,12 +84,12 @@ row-injective =
     read-back row-said (read RowAnswer.Answers RowAnswer.Refused)
     (elim [ RowAnswer.Answers a ↦ refl | RowAnswer.Refused r ↦ ap RowAnswer.Refused (refusal-back r) ])
 
-reading-injective : Injective reading-said
-reading-injective =
-    read-back reading-said (read (λ _. Reading.Answers) Reading.Refused)
-    (elim [ Reading.Answers ↦ refl | Reading.Refused r ↦ ap Reading.Refused (refusal-back r) ])
+read-outcome-injective : Injective read-outcome-said
+read-outcome-injective =
+    read-back read-outcome-said (read (λ _. ReadOutcome.Answers) ReadOutcome.Refused)
+    (elim [ ReadOutcome.Answers ↦ refl | ReadOutcome.Refused r ↦ ap ReadOutcome.Refused (refusal-back r) ])
 
 -- and the lot that was read counts as it is
 pub read-injective : Injective read-said
 read-injective x y e =
-    λ i. record { said = reading-injective (x .said) (y .said) (ap (λ (r : ReadSaid). r .said) e) i; lot = e i .lot }
+    λ i. record { said = read-outcome-injective (x .said) (y .said) (ap (λ (r : ReadSaid). r .said) e) i; lot = e i .lot }

@@ -1,40 +1,61 @@
--- The two inequalities of the deviation determine it.
-use mathlib.Core.Path.{_≡_}
-use mathlib.Core.Bool.{false}
+-- The deviation meets its two inequalities, and nothing else does.
+use mathlib.Core.Path.{_≡_, refl, subst⁻¹}
+use mathlib.Core.Bool.{true, false}
 use Prim.Native.Nat.{ℕ, zero, suc, _+_, _-_, _*_, _≤_, _<_, zero-le}
-use native.Mathlib.Nat.{le-refl, le-trans, mul-le-mul, mul-le-mul-left}
+use native.Mathlib.Nat.{le-refl, le-trans, mul-le-mul, mul-le-mul-left, zero-add}
 use native.Mathlib.Omega.{arith}
-use borrow.Author.Tests.{le-ltb, ne-eqb}
-use lib.Dec.{T, leb→le}
-use lib.Ieee.Bits.{is-true}
-use lib.Ieee.Fits.{and-l, and-r}
+use borrow.Author.Tests.{lt-ltb, ltb-false, ne-eqb}
+use lib.Dec.{T, leb→le, le→leb, ltb→lt, eqb·suc-zero}
+use lib.Ieee.Fits.{and-i, and-l, and-r}
 use lib.IntN.{pos}
-use Rattle.rules.specs.Deviation.{reaches, exceeds, is-deviation, deviation}
-use Rattle.laws.proofs.Search.{first-from-finds}
+use Rattle.rules.specs.Deviation.{before-midpoint-above, from-midpoint-below, is-deviation, deviation}
+use Rattle.laws.proofs.Search.{first-passes, none-before}
 
--- (2s−1)²·n·(n−1) ≤ 4V, where s is above 0
-exceeded : (n v s : ℕ) → 0 < s → T (exceeds n (pos v) s) → (2 * s - 1) * (2 * s - 1) * n * (n - 1) ≤ 4 * v
-exceeded n v s h e = leb→le _ _ (rw (ne-eqb s 0 (λ z. omega arith)) at e)
+-- n·(n−1) times the square of an odd number that is not larger is not larger.
+grows : (n : ℕ) {a b : ℕ} → a ≤ b → a * a * n * (n - 1) ≤ b * b * n * (n - 1)
+grows n h = mul-le-mul (mul-le-mul (mul-le-mul h h) (le-refl n)) (le-refl (n - 1))
 
--- so no number below s reaches past 4V,
-below : (n v s i : ℕ) → T (exceeds n (pos v) s) → i < s → reaches n (pos v) i ≡ false
-below n v s i e h =
-    let odd : 2 * i + 1 ≤ 2 * s - 1 = omega arith in
-    le-ltb _ _ (le-trans (mul-le-mul (mul-le-mul (mul-le-mul odd odd) (le-refl n)) (le-refl (n - 1))) (exceeded n v s (omega arith) e))
+-- The two inequalities, as orders.
+above : (n v s : ℕ) → T (is-deviation n (pos v) s) → 4 * v < (2 * s + 1) * (2 * s + 1) * n * (n - 1)
+above n v s t = ltb→lt _ _ (and-l (before-midpoint-above n (pos v) s) (from-midpoint-below n (pos v) s) t)
 
--- and s is not above V, so that V tries come to it.
-reached : (n v s : ℕ) → 2 ≤ n → T (exceeds n (pos v) s) → s ≤ v
-reached n v zero low e = zero-le
-reached n v (suc s) low e =
-    let o : ℕ = 2 * suc s - 1 in
-    let once : 1 ≤ o = omega arith in
-    let less : 1 ≤ n - 1 = omega arith in
-    let least : o * 1 * 2 * 1 ≤ o * o * n * (n - 1) = mul-le-mul (mul-le-mul (mul-le-mul-left o once) low) less in
-    omega (arith, le-trans least (exceeded n v (suc s) (omega arith) e))
+below : (n v s : ℕ) → 0 < s → T (is-deviation n (pos v) s) → (2 * s - 1) * (2 * s - 1) * n * (n - 1) ≤ 4 * v
+below n v s h t =
+    leb→le _ _ (rw (ne-eqb s 0 (λ z. omega arith)) at (and-r (before-midpoint-above n (pos v) s) (from-midpoint-below n (pos v) s) t))
+
+-- V itself is before its midpoint above, so V tries are enough.
+enough : (n v : ℕ) → 2 ≤ n → before-midpoint-above n (pos v) v ≡ true
+enough n v low =
+    let once : 1 ≤ 2 * v + 1 = omega arith in
+    let one : 1 ≤ n - 1 = omega arith in
+    let least : (2 * v + 1) * 1 * 2 * 1 ≤ (2 * v + 1) * (2 * v + 1) * n * (n - 1) = mul-le-mul (mul-le-mul (mul-le-mul-left (2 * v + 1) once) low) one in
+    lt-ltb (4 * v) ((2 * v + 1) * (2 * v + 1) * n * (n - 1)) (omega arith)
+
+-- A number past one that is not before its midpoint above is from its midpoint below.
+past : (n v s : ℕ) → before-midpoint-above n (pos v) s ≡ false → T (from-midpoint-below n (pos v) (suc s))
+past n v s e =
+    let same : 2 * suc s - 1 ≤ 2 * s + 1 = omega arith in
+    rw (eqb·suc-zero s) (le→leb _ _ (le-trans (grows n same) (ltb-false _ _ e)))
+
+-- The deviation meets both.
+pub meets : (n v : ℕ) → 2 ≤ n → T (is-deviation n (pos v) (deviation n (pos v)))
+unfolding deviation
+meets n v low =
+    and-i (before-midpoint-above n (pos v) (deviation n (pos v))) (from-midpoint-below n (pos v) (deviation n (pos v)))
+    (subst⁻¹ T (first-passes (before-midpoint-above n (pos v)) v 0 (subst⁻¹ (λ (m : ℕ). before-midpoint-above n (pos v) m ≡ true) (zero-add v) (enough n v low))) tt)
+    (by (deviation n (pos v)) refl)
+  where
+    by : (s : ℕ) → deviation n (pos v) ≡ s → T (from-midpoint-below n (pos v) s)
+    by zero e = tt
+    by (suc s) e = past n v s (none-before (before-midpoint-above n (pos v)) v 0 s zero-le (omega (arith, e)))
+
+-- Of two that meet both, neither is below the other: the midpoint above the one is not above the midpoint below the other.
+not-less : (n v s r : ℕ) → T (is-deviation n (pos v) s) → T (is-deviation n (pos v) r) → s < r → ⊥
+not-less n v s r here there h =
+    let odd : 2 * s + 1 ≤ 2 * r - 1 = omega arith in
+    omega (arith, above n v s here, below n v r (omega arith) there, grows n odd)
 
 pub determined : (n v s : ℕ) → 2 ≤ n → T (is-deviation n (pos v) s) → deviation n (pos v) ≡ s
-unfolding deviation
-determined n v s low t =
-    let e : T (exceeds n (pos v) s) = and-r (reaches n (pos v) s) (exceeds n (pos v) s) t in
-    let r : T (reaches n (pos v) s) = and-l (reaches n (pos v) s) (exceeds n (pos v) s) t in
-    first-from-finds (reaches n (pos v)) v 0 s zero-le (omega (arith, reached n v s low e)) (is-true _ r) (λ i. below n v s i e)
+determined n v s low here =
+    let there : T (is-deviation n (pos v) (deviation n (pos v))) = meets n v low in
+    omega (arith, not-less n v s (deviation n (pos v)) here there, not-less n v (deviation n (pos v)) s there here)

@@ -1,57 +1,73 @@
--- Picking a refusal is what it says: the number given applies and no lower one does, and none is given exactly when none applies.
+-- Picking a refusal is what document 01 says: the number given applies and no lower one of the entry's does, and none is given exactly
+-- when none applies. It rests on the entry's cases standing in the order of their numbers, which antt computes of each entry.
 use mathlib.Core.Path.{_≡_, refl, sym, ap, _∙_}
-use mathlib.Core.Bool.{Bool, true, false, cond, true≢false}
+use mathlib.Core.Bool.{Bool, true, false, cond, _&&_, true≢false}
 use mathlib.Core.List.{List, [], _∷_, List·Memᴰ, List·Memᴰ·head, List·Memᴰ·tail, List·Memᴰ·cases-cons, List·Memᴰ·not-nil}
 use mathlib.Core.Logic.{⊎-elim}
-use Prim.Native.Nat.{ℕ, min, _≤_}
-use native.Mathlib.Decide.{decLe}
+use Prim.Native.Nat.{ℕ, _≤_}
 use native.Mathlib.Omega.{arith}
-use Rattle.rules.specs.Said.{Said, refused, answers, Case, lower-of, ruled}
+use lib.Dec.{T, leb, leb→le}
+use lib.Ieee.Fits.{and-l, and-r}
+use Rattle.rules.specs.Said.{Said, refused, answers, Case, ruled}
 
--- the number is that of a case of the entry's that applies
+-- ---- what is meant
+
+-- the number is that of a case that applies
 pub record Given (cases : List Case) (k : ℕ) : Type 0 where
   pub case : Case
   pub met : List·Memᴰ case cases
   pub number : case .number ≡ k
   pub applies : case .applies ≡ true
 
--- What is said, by the cases: a number that applies and is the lowest to do so, or the values where none applies.
-abbrev pub Rightly : {A : Type 0} → List Case → A → Said A → Type 0
-Rightly cases a (refused k) = Given cases k × ((c : Case) → List·Memᴰ c cases → c .applies ≡ true → k ≤ c .number)
-Rightly cases a (answers b) = (b ≡ a) × ((c : Case) → List·Memᴰ c cases → c .applies ≡ false)
+-- a number that applies and is the lowest to do so, or values where none applies
+abbrev pub Rightly : {A : Type 0} → List Case → Said A → Type 0
+Rightly cases (refused k) = Given cases k × ((c : Case) → List·Memᴰ c cases → c .applies ≡ true → k ≤ c .number)
+Rightly cases (answers a) = (c : Case) → List·Memᴰ c cases → c .applies ≡ false
+
+-- ---- lists in the order of their numbers
+
+abbrev pub rising : ℕ → List Case → Bool
+rising k [] = true
+rising k (c ∷ cs) = leb k (c .number) && rising (c .number) cs
+
+not-lower : (k : ℕ) (cs : List Case) → T (rising k cs) → (c : Case) → List·Memᴰ c cs → k ≤ c .number
+not-lower k [] t c m = absurd (List·Memᴰ·not-nil m)
+not-lower k (d ∷ cs) t c m =
+    let h : k ≤ d .number = leb→le _ _ (and-l (leb k (d .number)) (rising (d .number) cs) t) in
+    ⊎-elim (λ e. omega (arith, ap (λ (x : Case). x .number) e))
+    (λ m′. omega (arith, not-lower (d .number) cs (and-r (leb k (d .number)) (rising (d .number) cs) t) c m′))
+    (List·Memᴰ·cases-cons m)
+
+-- ---- the law
 
 clash : (c d : Case) {X : Type 0} → c ≡ d → c .applies ≡ true → d .applies ≡ false → X
 clash c d e on off = absurd (true≢false (sym on ∙ ap (λ (x : Case). x .applies) e ∙ off))
 
-further : (c : Case) (cs : List Case) (k j : ℕ) → k ≡ j → Given cs k → Given (c ∷ cs) j
-further c cs k j e g =
-    record { case = g .case; met = List·Memᴰ·tail (g .met); number = g .number ∙ e; applies = g .applies }
+-- a case that applies is given, and those after it are not lower
+met : (A : Type 0) (c : Case) (cs : List Case) → T (rising (c .number) cs) → c .applies ≡ true → Rightly {A = A} (c ∷ cs) (refused (c .number))
+met A c cs t on = (
+  record { case = c; met = List·Memᴰ·head refl; number = refl; applies = on },
+  λ d m there. ⊎-elim (λ e. omega (arith, ap (λ (x : Case). x .number) e)) (λ m′. not-lower (c .number) cs t d m′) (List·Memᴰ·cases-cons m),
+)
 
 module _ {A : Type 0} where
-  passed : (c : Case) (cs : List Case) (a : A) → c .applies ≡ false → (s : Said A) → Rightly cs a s → Rightly (c ∷ cs) a s
-  passed c cs a off (refused k) r =
-      (further c cs k k refl (r .0), λ d m on. ⊎-elim (λ e. clash d c e on off) (λ m′. r .1 d m′ on) (List·Memᴰ·cases-cons m))
-  passed c cs a off (answers b) r =
-      (r .0, λ d m. ⊎-elim (λ e. ap (λ (x : Case). x .applies) e ∙ off) (λ m′. r .1 d m′) (List·Memᴰ·cases-cons m))
-
-  met : (c : Case) (cs : List Case) (a : A) → c .applies ≡ true → (s : Said A) → Rightly cs a s → Rightly (c ∷ cs) a (refused (lower-of (c .number) s))
-  met c cs a on (refused j) r = (
-    elim (decLe (c .number) j) [
-      | yes h ↦ record { case = c; met = List·Memᴰ·head refl; number = omega arith; applies = on }
-      | no h ↦ further c cs j (min (c .number) j) (omega arith) (r .0)
-    ],
-    λ d m there. ⊎-elim (λ e. omega (arith, ap (λ (x : Case). x .number) e)) (λ m′. omega (arith, r .1 d m′ there)) (List·Memᴰ·cases-cons m),
+  -- one that does not apply changes nothing
+  passed : (c : Case) (cs : List Case) → c .applies ≡ false → (s : Said A) → Rightly cs s → Rightly (c ∷ cs) s
+  passed c cs off (refused k) r = (
+    record { case = r .0 .case; met = List·Memᴰ·tail (r .0 .met); number = r .0 .number; applies = r .0 .applies },
+    λ d m on. ⊎-elim (λ e. clash d c e on off) (λ m′. r .1 d m′ on) (List·Memᴰ·cases-cons m),
   )
-  met c cs a on (answers b) r = (
-    record { case = c; met = List·Memᴰ·head refl; number = refl; applies = on },
-    λ d m there. ⊎-elim (λ e. omega (arith, ap (λ (x : Case). x .number) e)) (λ m′. clash d d refl there (r .1 d m′)) (List·Memᴰ·cases-cons m),
-  )
+  passed c cs off (answers b) r =
+      λ d m. ⊎-elim (λ e. ap (λ (x : Case). x .applies) e ∙ off) (λ m′. r d m′) (List·Memᴰ·cases-cons m)
 
-  pub lowest : (cases : List Case) (a : A) → Rightly cases a (ruled cases a)
+  pub lowest : (k : ℕ) (cases : List Case) (a : A) → T (rising k cases) → Rightly cases (ruled cases a)
   unfolding ruled
-  lowest [] a = (refl, λ c m. absurd (List·Memᴰ·not-nil m))
-  lowest (c ∷ cs) a = by (c .applies) refl (lowest cs a)
+  lowest k [] a t = λ c m. absurd (List·Memᴰ·not-nil m)
+  lowest k (c ∷ cs) a t = by (c .applies) refl (lowest (c .number) cs a after)
     where
-      by : (b : Bool) → c .applies ≡ b → Rightly cs a (ruled cs a) → Rightly (c ∷ cs) a (cond b (refused (lower-of (c .number) (ruled cs a))) (ruled cs a))
-      by true e r = met c cs a e (ruled cs a) r
-      by false e r = passed c cs a e (ruled cs a) r
+      after : T (rising (c .number) cs)
+      after = and-r (leb k (c .number)) (rising (c .number) cs) t
+
+      by : (b : Bool) → c .applies ≡ b → Rightly cs (ruled cs a) → Rightly (c ∷ cs) (cond b (refused (c .number)) (ruled cs a))
+      by true e r = met A c cs after e
+      by false e r = passed c cs e (ruled cs a) r

@@ -8,31 +8,31 @@ use native.Mathlib.Omega.{arith}
 use lib.Dec.{T, leb, eqb, leb→le, eqb→eq}
 use lib.Ieee.Fits.{and-l, and-r}
 use lib.ListN.{length, getD}
-use Rattle.rules.specs.Table.{rows, table-106-1, entry, last-row, never-falls, well-formed, column-four}
+use Rattle.rules.specs.Table.{rows, table-106-1, entry, last-row, rises-from, well-formed, column-four}
 use Rattle.laws.specs.Column.{Column}
 use Rattle.laws.proofs.Each.{each, each-at}
 
 -- no entry is below what went before
-above : (least : ℕ) (xs : List ℕ) → T (never-falls least xs) → (k : ℕ) → k < length xs → least ≤ getD xs k 0
+above : (least : ℕ) (xs : List ℕ) → T (rises-from least xs) → (k : ℕ) → k < length xs → least ≤ getD xs k 0
 above least [] t k h = absurd (omega arith)
-above least (x ∷ xs) t zero h = leb→le least x (and-l (leb least x) (never-falls x xs) t)
+above least (x ∷ xs) t zero h = leb→le least x (and-l (leb least x) (rises-from x xs) t)
 above least (x ∷ xs) t (suc k) h =
-    le-trans (leb→le least x (and-l (leb least x) (never-falls x xs) t)) (above x xs (and-r (leb least x) (never-falls x xs) t) k (le-of-suc-le-suc h))
+    le-trans (leb→le least x (and-l (leb least x) (rises-from x xs) t)) (above x xs (and-r (leb least x) (rises-from x xs) t) k (le-of-suc-le-suc h))
 
-ordered : (least : ℕ) (xs : List ℕ) → T (never-falls least xs) → (j k : ℕ) → j ≤ k → k < length xs → getD xs j 0 ≤ getD xs k 0
+ordered : (least : ℕ) (xs : List ℕ) → T (rises-from least xs) → (j k : ℕ) → j ≤ k → k < length xs → getD xs j 0 ≤ getD xs k 0
 ordered least [] t j k h below = absurd (omega arith)
 ordered least (x ∷ xs) t zero zero h below = le-refl x
-ordered least (x ∷ xs) t zero (suc k) h below = above x xs (and-r (leb least x) (never-falls x xs) t) k (le-of-suc-le-suc below)
+ordered least (x ∷ xs) t zero (suc k) h below = above x xs (and-r (leb least x) (rises-from x xs) t) k (le-of-suc-le-suc below)
 ordered least (x ∷ xs) t (suc j) zero h below = absurd (omega arith)
 ordered least (x ∷ xs) t (suc j) (suc k) h below =
-    ordered x xs (and-r (leb least x) (never-falls x xs) t) j k (le-of-suc-le-suc h) (le-of-suc-le-suc below)
+    ordered x xs (and-r (leb least x) (rises-from x xs) t) j k (le-of-suc-le-suc h) (le-of-suc-le-suc below)
 
 -- What the test says, at any row.
 pub column : (xs : List ℕ) → T (well-formed xs) → Column xs
 column xs t =
     let long : Bool = eqb (length xs) (suc last-row) in
     let first : Bool = eqb (getD xs 0 0) 5000 in
-    let rising : Bool = never-falls 0 xs in
+    let rising : Bool = rises-from 0 xs in
     let last : Bool = eqb (getD xs last-row 0) 10000 in
     let t₃ : T (long && first && rising) = and-l (long && first && rising) last t in
     let t₂ : T (long && first) = and-l (long && first) rising t₃ in

@@ -5,14 +5,14 @@ use Prim.Native.Nat.{ℕ}
 use mathlib.Core.Bool.{Bool, true}
 use lib.IntN.{ℤ, pos, negℤ}
 use lib.ListN.{length}
-use lib.Signed.{leZ}
+use lib.Signed.{leZ, ltZ}
 use Rattle.rules.specs.declared.Limit.{Limit}
 use Rattle.rules.specs.declared.Limit.the-variants.{Absent, At}
 use Rattle.rules.specs.declared.Percentages.{Percentages}
 use Rattle.rules.specs.Units.{thousandths}
 use Rattle.rules.specs.Said.{Said, refused, answers}
 use Rattle.rules.specs.Lot.{lot-of}
-use Rattle.rules.specs.Percent.{sum, spread, upper-distance, index-squared, midpoint-squared}
+use Rattle.rules.specs.Percent.{Totals, totals, spread, upper-distance, index-squared, midpoint-squared}
 use Rattle.rules.specs.Entries.{evaluation-says, deviation-says}
 
 pub data Example : Type 0 where
@@ -26,17 +26,19 @@ pub data Example : Type 0 where
 abbrev pub at : ℕ → Limit
 at z = At (thousandths (pos z))
 
-abbrev pub Answers : (Percentages → Type 0) → Said Percentages → Type 0
-Answers P (refused k) = ⊥
-Answers P (answers p) = P p
+abbrev pub Answered : (Percentages → Type 0) → Said Percentages → Type 0
+Answered P (refused k) = ⊥
+Answered P (answers p) = P p
 
 abbrev pub Holds : Example → Type 0
 Holds (pwl xs upper lower expected) =
-    Answers (λ (p : Percentages). p .pwl .0 ≡ pos expected) (evaluation-says (lot-of upper lower xs))
+    Answered (λ (p : Percentages). p .pwl .0 ≡ pos expected) (evaluation-says (lot-of upper lower xs))
 Holds (midpoint xs upper k) =
-    let n : ℕ = length xs in
-    let d : ℤ = upper-distance n (sum xs) upper in
-    _≡_ {A = Bool × ℤ} (leZ (pos 0) d, index-squared n d) (true, midpoint-squared n (spread n xs) k)
+    let a : Totals = totals (length xs) xs in
+    let d : ℤ = upper-distance a upper in
+    _≡_ {A = Bool × Bool × ℤ}
+    (ltZ (pos 0) (spread a), leZ (pos 0) d, index-squared (a .n) d)
+    (true, true, midpoint-squared (a .n) (spread a) k)
 Holds (deviation xs expected) = deviation-says xs ≡ answers (thousandths (pos expected))
 
 abbrev pub examples : List Example

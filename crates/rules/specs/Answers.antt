@@ -1,6 +1,5 @@
 -- The paper's number and values for each case of each answer.
 use Prim.Native.Nat.{ℕ}
-use Rattle.rules.specs.declared.Refusal.{Refusal}
 use Rattle.rules.specs.declared.Thousandths.{Thousandths}
 use Rattle.rules.specs.declared.Mean.{Mean}
 use Rattle.rules.specs.declared.MeanAnswer.{MeanAnswer}
@@ -12,37 +11,37 @@ use Rattle.rules.specs.declared.PayAnswer.{PayAnswer}
 use Rattle.rules.specs.declared.MixtureLimits.{MixtureLimits}
 use Rattle.rules.specs.declared.MixtureAnswer.{MixtureAnswer}
 use Rattle.rules.specs.declared.HeldLot.{HeldLot}
-use Rattle.rules.specs.declared.Reading.{Reading}
+use Rattle.rules.specs.declared.ReadOutcome.{ReadOutcome}
 use Rattle.rules.specs.declared.ReadAnswer.{ReadAnswer}
 use Rattle.rules.specs.declared.WriteAnswer.{WriteAnswer}
 use Rattle.rules.specs.declared.Row.{Row}
 use Rattle.rules.specs.declared.RowAnswer.{RowAnswer}
-use Rattle.rules.specs.Said.{Said, refused, answers}
-use Rattle.rules.specs.Refusals.{number-of}
+use Rattle.rules.specs.Said.{Said, answers}
+use Rattle.rules.specs.Refusals.{told}
 
 abbrev pub mean-said : MeanAnswer → Said Mean
 mean-said (MeanAnswer.Answers m) = answers m
-mean-said (MeanAnswer.Refused r) = refused (number-of r)
+mean-said (MeanAnswer.Refused r) = told r
 
 abbrev pub deviation-said : DeviationAnswer → Said Thousandths
 deviation-said (DeviationAnswer.Answers s) = answers s
-deviation-said (DeviationAnswer.Refused r) = refused (number-of r)
+deviation-said (DeviationAnswer.Refused r) = told r
 
 abbrev pub evaluation-said : Evaluation → Said Percentages
 evaluation-said (Evaluation.Answers p) = answers p
-evaluation-said (Evaluation.Refused r) = refused (number-of r)
+evaluation-said (Evaluation.Refused r) = told r
 
 abbrev pub pay-said : PayAnswer → Said Payment
 pay-said (PayAnswer.Answers p) = answers p
-pay-said (PayAnswer.Refused r) = refused (number-of r)
+pay-said (PayAnswer.Refused r) = told r
 
 abbrev pub mixture-said : MixtureAnswer → Said MixtureLimits
 mixture-said (MixtureAnswer.Answers l) = answers l
-mixture-said (MixtureAnswer.Refused r) = refused (number-of r)
+mixture-said (MixtureAnswer.Refused r) = told r
 
-abbrev pub reading-said : Reading → Said (Unit {0})
-reading-said Reading.Answers = answers tt
-reading-said (Reading.Refused r) = refused (number-of r)
+abbrev pub read-outcome-said : ReadOutcome → Said (Unit {0})
+read-outcome-said ReadOutcome.Answers = answers tt
+read-outcome-said (ReadOutcome.Refused r) = told r
 
 -- a lot that was read, beside what is said of it
 pub record ReadSaid : Type 0 where
@@ -50,12 +49,12 @@ pub record ReadSaid : Type 0 where
   pub lot : HeldLot
 
 abbrev pub read-said : ReadAnswer → ReadSaid
-read-said r = record { said = reading-said (r .said); lot = r .lot }
+read-said r = record { said = read-outcome-said (r .said); lot = r .lot }
 
 abbrev pub write-said : WriteAnswer → Said ℕ
 write-said (WriteAnswer.Answers size) = answers size
-write-said (WriteAnswer.Refused r) = refused (number-of r)
+write-said (WriteAnswer.Refused r) = told r
 
 abbrev pub row-said : RowAnswer → Said Row
 row-said (RowAnswer.Answers row) = answers row
-row-said (RowAnswer.Refused r) = refused (number-of r)
+row-said (RowAnswer.Refused r) = told r

@@ -6,22 +6,22 @@ use lib.IntN.{ℤ, pos, natAbs, _*ℤ_}
 use lib.Signed.{leZ, ltZ}
 
 -- 4V < (2s+1)²·n·(n−1)
-abbrev pub reaches : ℕ → ℤ → ℕ → Bool
-reaches n v s = ltZ (pos 4 *ℤ v) (pos ((2 * s + 1) * (2 * s + 1) * n * (n - 1)))
+abbrev pub before-midpoint-above : ℕ → ℤ → ℕ → Bool
+before-midpoint-above n v s = ltZ (pos 4 *ℤ v) (pos ((2 * s + 1) * (2 * s + 1) * n * (n - 1)))
 
 -- where s is above 0, (2s−1)²·n·(n−1) ≤ 4V
-abbrev pub exceeds : ℕ → ℤ → ℕ → Bool
-exceeds n v s = eqb s 0 || leZ (pos ((2 * s - 1) * (2 * s - 1) * n * (n - 1))) (pos 4 *ℤ v)
+abbrev pub from-midpoint-below : ℕ → ℤ → ℕ → Bool
+from-midpoint-below n v s = eqb s 0 || leZ (pos ((2 * s - 1) * (2 * s - 1) * n * (n - 1))) (pos 4 *ℤ v)
 
 -- the whole s with both
 abbrev pub is-deviation : ℕ → ℤ → ℕ → Bool
-is-deviation n v s = reaches n v s && exceeds n v s
+is-deviation n v s = before-midpoint-above n v s && from-midpoint-below n v s
 
 -- the first number from s on that passes, of so many as are tried
 unfoldable pub first-from : (ℕ → Bool) → ℕ → ℕ → ℕ
 first-from passes zero s = s
 first-from passes (suc tries) s = elim (passes s) [ true ↦ s | false ↦ first-from passes tries (suc s) ]
 
--- It is found by a search from zero; V tries are enough.
+-- It is found by a search from zero, for which V tries are enough (a law).
 unfoldable pub deviation : ℕ → ℤ → ℕ
-deviation n v = first-from (reaches n v) (natAbs v) 0
+deviation n v = first-from (before-midpoint-above n v) (natAbs v) 0

@@ -16,12 +16,12 @@ use Rattle.rules.specs.Units.{thousandths, hundredths}
 use Rattle.rules.specs.Said.{Said, refused, answers, ruled}
 use Rattle.rules.specs.Lot.{Lot, most}
 use Rattle.rules.specs.Table.{Table, table-106-1}
-use Rattle.rules.specs.Percent.{Rule, nearest, sum, spread, upper-side, lower-side, within}
+use Rattle.rules.specs.Percent.{Rule, nearest, Totals, totals, sum, spread, upper-side, lower-side, within}
 use Rattle.rules.specs.Deviation.{deviation}
 use Rattle.rules.specs.Pay.{payment}
 use Rattle.rules.specs.Mixture.{mixture-limits}
 use Rattle.rules.specs.Record.{lot-of-record, record-of}
-use Rattle.rules.specs.Refusals.{readings-meet, evaluation-meets, row-meets, reading-meets, writing-meets, pay-meets, mixture-meets}
+use Rattle.rules.specs.Refusals.{readings-meet, evaluation-meets, row-meets, read-meets, write-meets, pay-meets, mixture-meets}
 use Rattle.rules.specs.Notebook.{lent-lot, row-of}
 use Rattle.rules.specs.Answers.{ReadSaid}
 
@@ -32,26 +32,31 @@ mean-says xs = ruled (readings-meet xs) (record { total = thousandths (sum xs); 
 
 -- s of n readings
 abbrev pub deviation-of : ℕ → List ℤ → ℤ
-deviation-of n xs = pos (deviation n (spread n xs))
+deviation-of n xs = pos (deviation n (spread (totals n xs)))
 
 unfoldable pub deviation-says : List ℤ → Said Thousandths
 deviation-says xs = ruled (readings-meet xs) (thousandths (deviation-of (length xs) xs))
 
 -- ---- direct evaluation
 
-unfoldable pub percentages : Rule → Table → Lot → Percentages
-percentages rule table lot =
-    let upper : ℤ = upper-side rule table lot (lot .upper) in
-    let lower : ℤ = lower-side rule table lot (lot .lower) in
-    record { upper = hundredths upper; lower = hundredths lower; pwl = hundredths (within upper lower) }
+module _ (rule : Rule) (table : Table) where
+  unfoldable pub percentages : Lot → Percentages
+  percentages lot =
+      let a : Totals = totals (lot .n) (lot .readings) in
+      let upper : ℤ = upper-side rule table a (lot .upper) in
+      let lower : ℤ = lower-side rule table a (lot .lower) in
+      record { upper = hundredths upper; lower = hundredths lower; pwl = hundredths (within upper lower) }
+
+  unfoldable pub evaluated : Lot → Said Percentages
+  evaluated lot = ruled (evaluation-meets lot) (percentages lot)
 
 unfoldable pub evaluation-says : Lot → Said Percentages
-evaluation-says lot = ruled (evaluation-meets lot) (percentages nearest table-106-1 lot)
+evaluation-says lot = evaluated nearest table-106-1 lot
 
 -- ---- the lot record
 
-unfoldable pub reading-says : List ℕ → Said Lot
-reading-says bs = ruled (reading-meets bs) (lot-of-record bs)
+unfoldable pub read-says : List ℕ → Said Lot
+read-says bs = ruled (read-meets bs) (lot-of-record bs)
 
 -- The lot in memory beside it: zeros in the places past its readings, and one blank lot where the record is refused.
 unfoldable pub held : Said Lot → HeldLot
@@ -64,25 +69,25 @@ held (answers lot) =
       readings = map thousandths (lot .readings) ++ replicate (most - lot .n) (thousandths (pos 0));
     }
 
--- whether it was read, or the refusal, beside that lot
 abbrev pub bare : {A : Type 0} → Said A → Said (Unit {0})
 bare (refused k) = refused k
 bare (answers a) = answers tt
 
-abbrev pub reading-leaves : List ℕ → ReadSaid
-reading-leaves bs = record { said = bare (reading-says bs); lot = held (reading-says bs) }
+-- whether it was read, or the refusal, beside that lot
+abbrev pub read-leaves : List ℕ → ReadSaid
+read-leaves bs = record { said = bare (read-says bs); lot = held (read-says bs) }
 
 -- the number of bytes written
-unfoldable pub writing-says : Lot → List ℕ → Said ℕ
-writing-says lot out = ruled (writing-meets lot (length out)) (length (record-of lot))
+unfoldable pub write-says : Lot → List ℕ → Said ℕ
+write-says lot out = ruled (write-meets lot (length out)) (length (record-of lot))
 
--- The lent bytes after a write: as before where it is refused, else the record and then the old rest.
-unfoldable pub written : List ℕ → List ℕ → Said ℕ → List ℕ
-written bytes out (refused k) = out
-written bytes out (answers size) = bytes ++ drop size out
+-- A lent list after a write: as before where it is refused, else what was to be written and then the old rest.
+unfoldable pub written : {A B : Type 0} → List A → List A → Said B → List A
+written new out (refused k) = out
+written new out (answers b) = new ++ drop (length new) out
 
-abbrev pub after-writing : Lot → List ℕ → List ℕ
-after-writing lot out = written (record-of lot) out (writing-says lot out)
+abbrev pub after-write : Lot → List ℕ → List ℕ
+after-write lot out = written (record-of lot) out (write-says lot out)
 
 -- ---- pay, and limits by mixture
 

@@ -1,4 +1,5 @@
--- A lot: its count n, its limits and its readings.
+-- A lot: its count n, its limits and its readings. They are n in number, but for a lot in memory whose count is above what it can hold,
+-- and that is refusal 4.
 use mathlib.Core.List.{List, map}
 use Prim.Native.Nat.{ℕ}
 use lib.IntN.{ℤ}

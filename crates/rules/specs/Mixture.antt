@@ -1,6 +1,5 @@
 -- Document 01, "Limits by mixture": Table 1 of document 000, as pairs of a lower and an upper number.
 use mathlib.Core.List.{List, [], _∷_}
-use Prim.Native.Nat.{ℕ}
 use lib.IntN.{ℤ, pos, negℤ, natAbs, _+ℤ_}
 use lib.ListN.{getD}
 use Rattle.rules.specs.declared.Limits.{Limits}
@@ -12,28 +11,28 @@ pub record Pair : Type 0 where
   pub upper : ℤ
 
 -- minimum − 700 and minimum + 3,000
-abbrev pub vma : ℤ → Pair
-vma minimum = record { lower = minimum +ℤ negℤ (pos 700); upper = minimum +ℤ pos 3000 }
+abbrev pub vma-pair : ℤ → Pair
+vma-pair minimum = record { lower = minimum +ℤ negℤ (pos 700); upper = minimum +ℤ pos 3000 }
 
 -- target − 1,350 and target + 1,350
-abbrev pub voids : ℤ → Pair
-voids target = record { lower = target +ℤ negℤ (pos 1350); upper = target +ℤ pos 1350 }
+abbrev pub voids-pair : ℤ → Pair
+voids-pair target = record { lower = target +ℤ negℤ (pos 1350); upper = target +ℤ pos 1350 }
 
 -- by mixture number: 0 IL-4.75, 1 IL-19.0 and 25.0, 2 SMA, 3 all others
-unfoldable pub densities : List Pair
-densities =
+unfoldable pub density-pairs : List Pair
+density-pairs =
     record { lower = pos 92500; upper = pos 97000 } ∷
     record { lower = pos 92200; upper = pos 97000 } ∷
     record { lower = pos 93000; upper = pos 98000 } ∷
     record { lower = pos 91500; upper = pos 97000 } ∷
     []
 
-abbrev pub density : ℤ → Pair
-density mixture = getD densities (natAbs mixture) (record { lower = pos 0; upper = pos 0 })
+abbrev pub density-pair : ℤ → Pair
+density-pair mixture = getD density-pairs (natAbs mixture) (record { lower = pos 0; upper = pos 0 })
 
 abbrev pub limits : Pair → Limits
 limits p = record { lower = thousandths (p .lower); upper = thousandths (p .upper) }
 
 unfoldable pub mixture-limits : ℤ → ℤ → ℤ → MixtureLimits
 mixture-limits mixture minimum target =
-    record { vma = limits (vma minimum); voids = limits (voids target); density = limits (density mixture) }
+    record { vma = limits (vma-pair minimum); voids = limits (voids-pair target); density = limits (density-pair mixture) }

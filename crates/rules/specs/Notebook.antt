@@ -1,5 +1,5 @@
 -- Document 01, "The notebook": readings as bytes, a limit as a number and a presence, and the row of three doubles.
-use mathlib.Core.Bool.{not}
+use mathlib.Core.Bool.{false, not}
 use mathlib.Core.List.{List}
 use Prim.Native.Nat.{ℕ, _*_, _/_}
 use lib.Dec.{eqb}
@@ -7,7 +7,6 @@ use lib.IntN.{ℤ, pos}
 use lib.ListN.{length}
 use lib.Ieee as Ieee
 use lib.Ieee.{Float, fin, binary64}
-use mathlib.Core.Bool.{false}
 use Rattle.rules.specs.declared.Limit.{Limit}
 use Rattle.rules.specs.declared.Row.{Row}
 use Rattle.rules.specs.Said.{Said, refused, answers}

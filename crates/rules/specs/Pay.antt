@@ -1,6 +1,6 @@
 -- Document 01, "Pay": the pay rule of document 000, with its own named constants.
 use mathlib.Core.Bool.{Bool, cond, _||_}
-use Prim.Native.Nat.{ℕ, _*_}
+use Prim.Native.Nat.{ℕ, _*_, _/_}
 use lib.IntN.{ℤ, pos, _+ℤ_, _*ℤ_}
 use lib.Signed.{ltZ, quotZ}
 use Rattle.rules.specs.declared.Verdict.{Verdict}
@@ -12,9 +12,9 @@ use Rattle.rules.specs.Units.{composite-of, cents}
 abbrev pub base : ℕ
 base = 53
 
--- the slope, one half: half a hundredth of a percent is one 200th, so so many 200ths for each hundredth
-abbrev pub slope : ℕ
-slope = 1
+-- the slope, one half: one over
+abbrev pub slope-over : ℕ
+slope-over = 2
 
 -- the weights of VMA, voids and density
 abbrev pub weight-vma : ℕ
@@ -26,9 +26,9 @@ weight-voids = 3
 abbrev pub weight-density : ℕ
 weight-density = 4
 
--- One characteristic's factor, in 200ths: 10,600 + PWL.
+-- One characteristic's factor, base and half of PWL, in 200ths of a percent where PWL is in hundredths: 10,600 + PWL.
 unfoldable pub factor : ℤ → ℤ
-factor pwl = pos (200 * base) +ℤ pos slope *ℤ pwl
+factor pwl = pos (200 * base) +ℤ pos (200 / (100 * slope-over)) *ℤ pwl
 
 -- W, the weighted sum of the three factors
 unfoldable pub weighted : ℤ → ℤ → ℤ → ℤ

@@ -8,8 +8,7 @@ use lib.IntN.{ℤ, pos, _+ℤ_, _-ℤ_, _*ℤ_}
 use lib.Signed.{leZ, ltZ}
 use Rattle.rules.specs.declared.Limit.{Limit}
 use Rattle.rules.specs.declared.Limit.the-variants.{Absent, At}
-use Rattle.rules.specs.Units.{hundred}
-use Rattle.rules.specs.Lot.{Lot}
+use Rattle.rules.specs.Units.{hundred-percent}
 use Rattle.rules.specs.Table.{Table, entry, last-row}
 
 -- T
@@ -22,17 +21,26 @@ unfoldable pub squares : List ℤ → ℤ
 squares [] = pos 0
 squares (x ∷ xs) = x *ℤ x +ℤ squares xs
 
+-- n, T and Z of some readings
+pub record Totals : Type 0 where
+  pub n : ℕ
+  pub t : ℤ
+  pub z : ℤ
+
+abbrev pub totals : ℕ → List ℤ → Totals
+totals n xs = record { n = n; t = sum xs; z = squares xs }
+
 -- V = n·Z − T²
-unfoldable pub spread : ℕ → List ℤ → ℤ
-spread n xs = pos n *ℤ squares xs -ℤ sum xs *ℤ sum xs
+unfoldable pub spread : Totals → ℤ
+spread a = pos (a .n) *ℤ a .z -ℤ a .t *ℤ a .t
 
 -- the upper distance D = n·U − T
-abbrev pub upper-distance : ℕ → ℤ → ℤ → ℤ
-upper-distance n t u = pos n *ℤ u -ℤ t
+unfoldable pub upper-distance : Totals → ℤ → ℤ
+upper-distance a u = pos (a .n) *ℤ u -ℤ a .t
 
 -- the lower distance D = T − n·L
-abbrev pub lower-distance : ℕ → ℤ → ℤ → ℤ
-lower-distance n t l = t -ℤ pos n *ℤ l
+unfoldable pub lower-distance : Totals → ℤ → ℤ
+lower-distance a l = a .t -ℤ pos (a .n) *ℤ l
 
 -- 1600·(n−1)·D²: the square of the index, times 1600·n·V
 unfoldable pub index-squared : ℕ → ℤ → ℤ
@@ -51,10 +59,11 @@ unfoldable pub largest : (ℕ → Bool) → ℕ → ℕ
 largest passes zero = zero
 largest passes (suc k) = cond (passes (suc k)) (suc k) (largest passes k)
 
--- A rule for rows finds one for n, V and D. The midpoint rule of document 004, squared: the largest k from 0 to 53 that is admitted.
+-- A rule for rows finds one for n, V and D.
 abbrev pub Rule : Type 0
 Rule = ℕ → ℤ → ℤ → ℕ
 
+-- The midpoint rule of document 004, squared: the largest k from 0 to 53 that is admitted.
 unfoldable pub nearest : Rule
 nearest n v d = largest (admits n v d) last-row
 
@@ -63,19 +72,19 @@ module _ (rule : Rule) (table : Table) where
   unfoldable pub side : ℕ → ℤ → ℤ → ℤ
   side n v d =
       let e : ℤ = pos (entry table n (rule n v d)) in
-      cond (ltZ (pos 0) v) (cond (leZ (pos 0) d) e (hundred -ℤ e)) (cond (leZ (pos 0) d) hundred (pos 0))
+      cond (ltZ (pos 0) v)
+      (cond (leZ (pos 0) d) e (hundred-percent -ℤ e))
+      (cond (leZ (pos 0) d) hundred-percent (pos 0))
 
   -- an absent limit's side is 10,000
-  unfoldable pub upper-side : Lot → Limit → ℤ
-  upper-side lot Absent = hundred
-  upper-side lot (At u) =
-      side (lot .n) (spread (lot .n) (lot .readings)) (upper-distance (lot .n) (sum (lot .readings)) (u .0))
+  unfoldable pub upper-side : Totals → Limit → ℤ
+  upper-side a Absent = hundred-percent
+  upper-side a (At u) = side (a .n) (spread a) (upper-distance a (u .0))
 
-  unfoldable pub lower-side : Lot → Limit → ℤ
-  lower-side lot Absent = hundred
-  lower-side lot (At l) =
-      side (lot .n) (spread (lot .n) (lot .readings)) (lower-distance (lot .n) (sum (lot .readings)) (l .0))
+  unfoldable pub lower-side : Totals → Limit → ℤ
+  lower-side a Absent = hundred-percent
+  lower-side a (At l) = side (a .n) (spread a) (lower-distance a (l .0))
 
 -- PWL = upper + lower − 10,000
 abbrev pub within : ℤ → ℤ → ℤ
-within upper lower = upper +ℤ lower -ℤ hundred
+within upper lower = upper +ℤ lower -ℤ hundred-percent

@@ -80,6 +80,10 @@ n-field bs = getD bs 12 0
 abbrev pub limit-of : Bool → ℤ → Limit
 limit-of present z = cond present (At (thousandths z)) Absent
 
+-- 13 bytes stand before the readings
+abbrev pub head-size : ℕ
+head-size = 13
+
 -- ---- the lot of a record
 
 unfoldable pub lot-of-record : List ℕ → Lot
@@ -88,7 +92,7 @@ lot-of-record bs =
       n = n-field bs;
       upper = limit-of (has-upper bs) (four (upper-field bs));
       lower = limit-of (has-lower bs) (four (lower-field bs));
-      readings = fours (n-field bs) (drop 13 bs);
+      readings = fours (n-field bs) (drop head-size bs);
     }
 
 -- ---- the record of a lot

@@ -10,11 +10,11 @@ use Rattle.rules.specs.declared.Limit.{Limit}
 use Rattle.rules.specs.declared.Limit.the-variants.{Absent, At}
 use Rattle.rules.specs.declared.Refusal.{Refusal}
 use Rattle.rules.specs.declared.Refusal.the-variants.{Size, Version, Flags, Count, Range, Unlimited, Crossed, Room, Number}
-use Rattle.rules.specs.Units.{in-range, hundred}
-use Rattle.rules.specs.Said.{Case}
+use Rattle.rules.specs.Units.{in-range, hundred-percent}
+use Rattle.rules.specs.Said.{Said, refused, Case}
 use Rattle.rules.specs.Lot.{Lot, most}
-use Rattle.rules.specs.Record.{length-field, version-field, flags-field, n-field, upper-field, lower-field, has-upper, has-lower, length-of, spelled, lot-of-record, record-of}
-use Rattle.rules.specs.Mixture.{Pair, vma, voids}
+use Rattle.rules.specs.Record.{length-field, version-field, flags-field, n-field, upper-field, lower-field, has-upper, has-lower, head-size, length-of, spelled, lot-of-record, record-of}
+use Rattle.rules.specs.Mixture.{Pair, vma-pair, voids-pair}
 
 abbrev pub number-of : Refusal → ℕ
 number-of Size = 1
@@ -27,6 +27,9 @@ number-of Crossed = 7
 number-of Room = 8
 number-of Number = 9
 
+abbrev pub told : {A : Type 0} → Refusal → Said A
+told refusal = refused (number-of refusal)
+
 abbrev pub given-when : Refusal → Bool → Case
 given-when refusal applies = record { number = number-of refusal; applies = applies }
 
@@ -34,7 +37,7 @@ given-when refusal applies = record { number = number-of refusal; applies = appl
 
 -- 1: fewer than 13 bytes, or the length isn't the slice's size less 2
 abbrev pub size-case : List ℕ → Case
-size-case bs = given-when Size (ltb (length bs) 13 || not (eqb (length-field bs) (length bs - 2)))
+size-case bs = given-when Size (ltb (length bs) head-size || not (eqb (length-field bs) (length bs - 2)))
 
 -- 2: version isn't 1
 abbrev pub version-case : List ℕ → Case
@@ -99,17 +102,17 @@ crossed-case upper lower = given-when Crossed (crossed upper lower)
 abbrev pub room-case : ℕ → ℕ → Case
 room-case room size = given-when Room (ltb room size)
 
--- a number below 0 or above the most that is taken
+-- below 0 or above the greatest number that is taken
 abbrev pub outside : ℤ → ℤ → Bool
-outside most z = ltZ z (pos 0) || ltZ most z
+outside greatest z = ltZ z (pos 0) || ltZ greatest z
 
 -- 9, in pay: a number below 0, a PWL above 10,000, price above 10,000,000 or quantity above 100,000,000
 abbrev pub pay-case : ℤ → ℤ → ℤ → ℤ → ℤ → Case
 pay-case vma voids density price quantity =
     given-when Number
-    (outside hundred vma
-    || outside hundred voids
-    || outside hundred density
+    (outside hundred-percent vma
+    || outside hundred-percent voids
+    || outside hundred-percent density
     || outside (pos 10000000) price
     || outside (pos 100000000) quantity)
 
@@ -117,12 +120,12 @@ pay-case vma voids density price quantity =
 abbrev pub mixture-case : ℤ → Case
 mixture-case mixture = given-when Number (outside (pos 3) mixture)
 
--- 5, in the mixture lookup: a minimum or target that puts a limit out of range
 abbrev pub pair-out : Pair → Bool
 pair-out p = not (in-range (p .upper)) || not (in-range (p .lower))
 
+-- 5, in the mixture lookup: a minimum or target that puts a limit out of range
 abbrev pub offset-case : ℤ → ℤ → Case
-offset-case minimum target = given-when Range (pair-out (vma minimum) || pair-out (voids target))
+offset-case minimum target = given-when Range (pair-out (vma-pair minimum) || pair-out (voids-pair target))
 
 -- ---- what each entry can meet
 
@@ -147,13 +150,13 @@ unfoldable pub row-meets : List ℕ → Lot → List Case
 row-meets bs lot = bytes-count-case bs ∷ lot-meets lot
 
 -- reading: 1 to 7
-unfoldable pub reading-meets : List ℕ → List Case
-reading-meets bs =
+unfoldable pub read-meets : List ℕ → List Case
+read-meets bs =
     size-case bs ∷ version-case bs ∷ flags-case bs ∷ record-count-case bs ∷ lot-meets (lot-of-record bs)
 
 -- writing: 4 to 8
-unfoldable pub writing-meets : Lot → ℕ → List Case
-writing-meets lot room = count-case (lot .n) ∷ lot-meets lot ++ (room-case room (length (record-of lot)) ∷ [])
+unfoldable pub write-meets : Lot → ℕ → List Case
+write-meets lot room = count-case (lot .n) ∷ lot-meets lot ++ (room-case room (length (record-of lot)) ∷ [])
 
 -- pay: 9
 unfoldable pub pay-meets : ℤ → ℤ → ℤ → ℤ → ℤ → List Case

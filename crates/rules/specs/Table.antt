@@ -64,12 +64,13 @@ rows =
     (10000 ∷ 10000 ∷ 10000 ∷ 10000 ∷ 10000 ∷ 10000 ∷ 10000 ∷ 10000 ∷ 10000 ∷ []) ∷  -- 2.65
     []
 
--- A table has a column for each count n; entry k of a column is its row k.
+-- A table has a column for a count n, or none; entry k of a column is its row k.
 abbrev pub Table : Type 0
 Table = ℕ → List ℕ
 
+-- columns n = 2 to 10
 unfoldable pub table-106-1 : Table
-table-106-1 n = map (λ (row : List ℕ). getD row (n - 2) 0) rows
+table-106-1 n = cond (leb 2 n && leb n 10) (map (λ (row : List ℕ). getD row (n - 2) 0) rows) []
 
 abbrev pub entry : Table → ℕ → ℕ → ℕ
 entry table n k = getD (table n) k 0
@@ -78,16 +79,17 @@ entry table n k = getD (table n) k 0
 abbrev pub last-row : ℕ
 last-row = 53
 
-abbrev pub never-falls : ℕ → List ℕ → Bool
-never-falls least [] = true
-never-falls least (x ∷ xs) = leb least x && never-falls x xs
+-- no entry is below the one before it
+abbrev pub rises-from : ℕ → List ℕ → Bool
+rises-from least [] = true
+rises-from least (x ∷ xs) = leb least x && rises-from x xs
 
 -- Every column starts at 50.00, never falls downwards and ends at 100.00.
 abbrev pub well-formed : List ℕ → Bool
 well-formed column =
     eqb (length column) (suc last-row)
     && eqb (getD column 0 0) 5000
-    && never-falls 0 column
+    && rises-from 0 column
     && eqb (getD column last-row 0) 10000
 
 -- Column n = 4: for row k below 30, 5,000 + 500k/3 rounded to the nearest whole, and 10,000 from row 30.

@@ -1,4 +1,4 @@
--- Document 01, "Units": the range of readings and limits, and the makers of each kind. Numbers are worked out over ℤ and take their kind at the end.
+-- Document 01, "Units": the range of readings and limits. Numbers are worked out over ℤ, and what an entry answers takes its kind at the end.
 use mathlib.Core.Bool.{Bool, _&&_}
 use lib.IntN.{ℤ, pos, negℤ}
 use lib.Signed.{leZ}
@@ -12,8 +12,8 @@ abbrev pub in-range : ℤ → Bool
 in-range z = leZ (negℤ (pos 500000)) z && leZ z (pos 500000)
 
 -- 100 percent, in hundredths
-abbrev pub hundred : ℤ
-hundred = pos 10000
+abbrev pub hundred-percent : ℤ
+hundred-percent = pos 10000
 
 abbrev pub thousandths : ℤ → Thousandths
 thousandths z = record { 0 = z }

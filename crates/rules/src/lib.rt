@@ -21,7 +21,7 @@ pub struct Composite(pub i64);
 pub struct Cents(pub i64);
 
 // A quantity, in hundredths of a ton.
-pub struct Tons(pub i64);
+pub struct HundredthTons(pub i64);
 
 pub enum Limit {
     Absent,
@@ -34,9 +34,9 @@ pub enum Refusal {
     Size,
     // 2: another version
     Version,
-    // 3: unknown flags, or bytes for an absent limit
+    // 3: unknown flags, or bytes that are not zero for an absent limit
     Flags,
-    // 4: too few or too many readings
+    // 4: too few or too many readings, or a length that does not fit their number
     Count,
     // 5: a limit or a reading out of range
     Range,
@@ -142,13 +142,13 @@ pub enum MixtureAnswer {
 }
 
 // An enum holds no array, so the lot that was read stands beside what is said of it: blank where it is refused.
-pub enum Reading {
+pub enum ReadOutcome {
     Answers,
     Refused(Refusal),
 }
 
 pub struct ReadAnswer {
-    pub said: Reading,
+    pub said: ReadOutcome,
     pub lot: HeldLot,
 }
 

@@ -1,5 +1,5 @@
 -- `table::entry` answers the table's entry: its constants are the columns of the printed table, by computation, and each is at its place.
-use mathlib.Core.Path.{_≡_, refl, ap, _∙_}
+use mathlib.Core.Path.{_≡_, ap, _∙_}
 use mathlib.Core.List.{List, [], _∷_}
 use Prim.Native.Nat.{ℕ, zero, suc, _+_, _-_, _<_}
 use native.Mathlib.Nat.{le-of-suc-le-suc}

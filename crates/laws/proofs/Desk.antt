@@ -10,7 +10,7 @@ use Rattle.rules.specs.Said.{Said, answers, ruled}
 use Rattle.rules.specs.Table.{rows, table-106-1}
 use Rattle.rules.specs.Percent.{sum, squares, spread, upper-distance, lower-distance, index-squared, midpoint-squared, admits, largest, nearest, side, upper-side, lower-side}
 use Rattle.rules.specs.Deviation.{is-deviation, deviation}
-use Rattle.rules.specs.Refusals.{readings-meet, evaluation-meets}
+use Rattle.rules.specs.Refusals.{any-out, readings-meet, evaluation-meets}
 use Rattle.rules.specs.Entries.{evaluated, evaluation-says, deviation-says, percentages}
 use Rattle.laws.specs.Every.{Every, done, _then_}
 use Rattle.laws.specs.Desk.{Holds, examples}
@@ -20,7 +20,7 @@ found : (n v : ℕ) {s : ℕ} → 2 ≤ n → T (is-deviation n (pos v) s) → _
 found n v {s} low t = ap (λ (m : ℕ). answers (thousandths (pos m))) (determined n v s low t)
 
 pub desk : Every Holds examples
-unfolding ruled rows table-106-1 sum squares spread upper-distance lower-distance index-squared midpoint-squared admits largest nearest side upper-side lower-side readings-meet evaluation-meets evaluated evaluation-says deviation-says percentages
+unfolding ruled rows table-106-1 sum squares spread upper-distance lower-distance index-squared midpoint-squared admits largest nearest side upper-side lower-side any-out readings-meet evaluation-meets evaluated evaluation-says deviation-says percentages
 desk =
     refl then  -- D1
     refl then  -- D2

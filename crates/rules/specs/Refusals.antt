@@ -72,7 +72,7 @@ abbrev pub out-of-range : Limit → Bool
 out-of-range Absent = false
 out-of-range (At z) = not (in-range (z .0))
 
-abbrev pub any-out : List ℤ → Bool
+unfoldable pub any-out : List ℤ → Bool
 any-out [] = false
 any-out (x ∷ xs) = not (in-range x) || any-out xs
 

@@ -10,7 +10,8 @@ use Rattle.rules.specs.Said.{Said, answers, ruled}
 use Rattle.rules.specs.Table.{rows, table-106-1}
 use Rattle.rules.specs.Percent.{sum, squares, spread, upper-distance, lower-distance, index-squared, midpoint-squared, admits, largest, nearest, side, upper-side, lower-side}
 use Rattle.rules.specs.Deviation.{is-deviation, deviation}
-use Rattle.rules.specs.Refusals.{any-out, readings-meet, evaluation-meets}
+use Rattle.rules.specs.Refusals.{any-out}
+use Rattle.rules.specs.Meets.{readings-meet, evaluation-meets}
 use Rattle.rules.specs.Entries.{evaluated, evaluation-says, deviation-says, percentages}
 use Rattle.laws.specs.Every.{Every, done, _then_}
 use Rattle.laws.specs.Desk.{Holds, examples}

@@ -5,7 +5,7 @@ use lib.IntN.{ℤ}
 use Rattle.rules.specs.declared.Limit.{Limit}
 use Rattle.rules.specs.Lot.{Lot}
 use Rattle.rules.specs.Notebook.{lent-lot}
-use Rattle.rules.specs.Refusals.{readings-meet, evaluation-meets, row-meets, read-meets, write-meets, pay-meets, mixture-meets}
+use Rattle.rules.specs.Meets.{readings-meet, evaluation-meets, row-meets, read-meets, write-meets, pay-meets, mixture-meets}
 use Rattle.rules.specs.Entries.{mean-says, deviation-says, evaluated, evaluation-says, read-says, write-says, pay-says, mixture-says, row-says}
 use Rattle.laws.proofs.Refusals.{Rightly, lowest}
 use lib.ListN.{length}

@@ -21,7 +21,7 @@ use Rattle.rules.specs.Deviation.{deviation}
 use Rattle.rules.specs.Pay.{payment}
 use Rattle.rules.specs.Mixture.{mixture-limits}
 use Rattle.rules.specs.Record.{lot-of-record, record-of}
-use Rattle.rules.specs.Refusals.{readings-meet, evaluation-meets, row-meets, read-meets, write-meets, pay-meets, mixture-meets}
+use Rattle.rules.specs.Meets.{readings-meet, evaluation-meets, row-meets, read-meets, write-meets, pay-meets, mixture-meets}
 use Rattle.rules.specs.Notebook.{lent-lot, row-of}
 use Rattle.rules.specs.Answers.{ReadSaid}
 

@@ -9,6 +9,7 @@ pub mod Pay
 pub mod Mixture
 pub mod Record
 pub mod Refusals
+pub mod Meets
 pub mod Notebook
 pub mod Answers
 pub mod Entries

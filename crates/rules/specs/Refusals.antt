@@ -1,6 +1,6 @@
--- Document 01, "Numbers of refusal": the table, a definition for each line, and below it what each entry can meet.
+-- Document 01, "Numbers of refusal": the table, a definition for each line of it.
 use mathlib.Core.Bool.{Bool, true, false, not, _&&_, _||_}
-use mathlib.Core.List.{List, [], _∷_, _++_}
+use mathlib.Core.List.{List, [], _∷_}
 use Prim.Native.Nat.{ℕ, _/_, _%_, _-_}
 use lib.Dec.{leb, ltb, eqb}
 use lib.IntN.{ℤ, pos}
@@ -12,8 +12,8 @@ use Rattle.rules.specs.declared.Refusal.{Refusal}
 use Rattle.rules.specs.declared.Refusal.the-variants.{Size, Version, Flags, Count, Range, Unlimited, Crossed, Room, Number}
 use Rattle.rules.specs.Units.{in-range, hundred-percent}
 use Rattle.rules.specs.Said.{Said, refused, Case}
-use Rattle.rules.specs.Lot.{Lot, most}
-use Rattle.rules.specs.Record.{length-field, version-field, flags-field, n-field, upper-field, lower-field, has-upper, has-lower, head-size, length-of, spelled, lot-of-record, record-of}
+use Rattle.rules.specs.Lot.{most}
+use Rattle.rules.specs.Record.{length-field, version-field, flags-field, n-field, upper-field, lower-field, has-upper, has-lower, head-size, length-of, spelled}
 use Rattle.rules.specs.Mixture.{Pair, vma-pair, voids-pair}
 
 abbrev pub number-of : Refusal → ℕ
@@ -32,8 +32,6 @@ told refusal = refused (number-of refusal)
 
 abbrev pub given-when : Refusal → Bool → Case
 given-when refusal applies = record { number = number-of refusal; applies = applies }
-
--- ---- the table
 
 -- 1: fewer than 13 bytes, or the length isn't the slice's size less 2
 abbrev pub size-case : List ℕ → Case
@@ -126,42 +124,3 @@ pair-out p = not (in-range (p .upper)) || not (in-range (p .lower))
 -- 5, in the mixture lookup: a minimum or target that puts a limit out of range
 abbrev pub offset-case : ℤ → ℤ → Case
 offset-case minimum target = given-when Range (pair-out (vma-pair minimum) || pair-out (voids-pair target))
-
--- ---- what each entry can meet
-
--- mean and deviation alone: 4 and 5
-unfoldable pub readings-meet : List ℤ → List Case
-readings-meet xs = count-case (length xs) ∷ range-case Absent Absent xs ∷ []
-
--- what a lot can meet after its count: 5 to 7
-abbrev pub lot-meets : Lot → List Case
-lot-meets lot =
-    range-case (lot .upper) (lot .lower) (lot .readings) ∷
-    unlimited-case (lot .upper) (lot .lower) ∷
-    crossed-case (lot .upper) (lot .lower) ∷
-    []
-
--- direct evaluation: 4 to 7
-unfoldable pub evaluation-meets : Lot → List Case
-evaluation-meets lot = count-case (lot .n) ∷ lot-meets lot
-
--- the notebook's row, of readings as bytes: 4 to 7
-unfoldable pub row-meets : List ℕ → Lot → List Case
-row-meets bs lot = bytes-count-case bs ∷ lot-meets lot
-
--- reading: 1 to 7
-unfoldable pub read-meets : List ℕ → List Case
-read-meets bs =
-    size-case bs ∷ version-case bs ∷ flags-case bs ∷ record-count-case bs ∷ lot-meets (lot-of-record bs)
-
--- writing: 4 to 8
-unfoldable pub write-meets : Lot → ℕ → List Case
-write-meets lot room = count-case (lot .n) ∷ lot-meets lot ++ (room-case room (length (record-of lot)) ∷ [])
-
--- pay: 9
-unfoldable pub pay-meets : ℤ → ℤ → ℤ → ℤ → ℤ → List Case
-pay-meets vma voids density price quantity = pay-case vma voids density price quantity ∷ []
-
--- the mixture lookup: 5 and 9
-unfoldable pub mixture-meets : ℤ → ℤ → ℤ → List Case
-mixture-meets mixture minimum target = offset-case minimum target ∷ mixture-case mixture ∷ []

@@ -1,0 +1,47 @@
+-- Document 01, "Numbers of refusal": what each entry can meet, in the order of the numbers.
+use mathlib.Core.List.{List, [], _∷_, _++_}
+use Prim.Native.Nat.{ℕ}
+use lib.IntN.{ℤ}
+use lib.ListN.{length}
+use Rattle.rules.specs.declared.Limit.the-variants.{Absent}
+use Rattle.rules.specs.Said.{Case}
+use Rattle.rules.specs.Lot.{Lot}
+use Rattle.rules.specs.Record.{lot-of-record, record-of}
+use Rattle.rules.specs.Refusals.{size-case, version-case, flags-case, count-case, record-count-case, bytes-count-case, range-case, unlimited-case, crossed-case, room-case, pay-case, mixture-case, offset-case}
+
+-- mean and deviation alone: 4 and 5
+unfoldable pub readings-meet : List ℤ → List Case
+readings-meet xs = count-case (length xs) ∷ range-case Absent Absent xs ∷ []
+
+-- what a lot can meet after its count: 5 to 7
+abbrev pub lot-meets : Lot → List Case
+lot-meets lot =
+    range-case (lot .upper) (lot .lower) (lot .readings) ∷
+    unlimited-case (lot .upper) (lot .lower) ∷
+    crossed-case (lot .upper) (lot .lower) ∷
+    []
+
+-- direct evaluation: 4 to 7
+unfoldable pub evaluation-meets : Lot → List Case
+evaluation-meets lot = count-case (lot .n) ∷ lot-meets lot
+
+-- the notebook's row, of readings as bytes: 4 to 7
+unfoldable pub row-meets : List ℕ → Lot → List Case
+row-meets bs lot = bytes-count-case bs ∷ lot-meets lot
+
+-- reading: 1 to 7
+unfoldable pub read-meets : List ℕ → List Case
+read-meets bs =
+    size-case bs ∷ version-case bs ∷ flags-case bs ∷ record-count-case bs ∷ lot-meets (lot-of-record bs)
+
+-- writing: 4 to 8
+unfoldable pub write-meets : Lot → ℕ → List Case
+write-meets lot room = count-case (lot .n) ∷ lot-meets lot ++ (room-case room (length (record-of lot)) ∷ [])
+
+-- pay: 9
+unfoldable pub pay-meets : ℤ → ℤ → ℤ → ℤ → ℤ → List Case
+pay-meets vma voids density price quantity = pay-case vma voids density price quantity ∷ []
+
+-- the mixture lookup: 5 and 9
+unfoldable pub mixture-meets : ℤ → ℤ → ℤ → List Case
+mixture-meets mixture minimum target = offset-case minimum target ∷ mixture-case mixture ∷ []

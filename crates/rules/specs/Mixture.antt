@@ -1,6 +1,6 @@
 -- Document 01, "Limits by mixture": Table 1 of document 000, as pairs of a lower and an upper number.
 use mathlib.Core.List.{List, [], _∷_}
-use lib.IntN.{ℤ, pos, negℤ, natAbs, _+ℤ_}
+use lib.IntN.{ℤ, pos, natAbs, _+ℤ_, _-ℤ_}
 use lib.ListN.{getD}
 use Rattle.rules.specs.declared.Limits.{Limits}
 use Rattle.rules.specs.declared.MixtureLimits.{MixtureLimits}
@@ -12,11 +12,11 @@ pub record Pair : Type 0 where
 
 -- minimum − 700 and minimum + 3,000
 abbrev pub vma-pair : ℤ → Pair
-vma-pair minimum = record { lower = minimum +ℤ negℤ (pos 700); upper = minimum +ℤ pos 3000 }
+vma-pair minimum = record { lower = minimum -ℤ pos 700; upper = minimum +ℤ pos 3000 }
 
 -- target − 1,350 and target + 1,350
 abbrev pub voids-pair : ℤ → Pair
-voids-pair target = record { lower = target +ℤ negℤ (pos 1350); upper = target +ℤ pos 1350 }
+voids-pair target = record { lower = target -ℤ pos 1350; upper = target +ℤ pos 1350 }
 
 -- by mixture number: 0 IL-4.75, 1 IL-19.0 and 25.0, 2 SMA, 3 all others
 unfoldable pub density-pairs : List Pair

@@ -3,7 +3,7 @@ use io::print_decimal;
 use libc::STDOUT_FILENO;
 ghost use Prim.Native.Nat.{_≤_};
 
-// A number of hundredths with its point. No entry is negative.
+// A number of hundredths with its point.
 fn show(hundredths: u64) {
     print_decimal(STDOUT_FILENO, hundredths / 100);
     io::write_all(STDOUT_FILENO, b".");
@@ -11,6 +11,7 @@ fn show(hundredths: u64) {
     print_decimal(STDOUT_FILENO, hundredths % 10);
 }
 
+// No entry is negative, so nothing is left out.
 fn show_signed(hundredths: i64) {
     if 0 <= hundredths {
         show(hundredths as u64);

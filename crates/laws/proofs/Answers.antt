@@ -10,12 +10,12 @@ use Rattle.rules.specs.declared.DeviationAnswer.{DeviationAnswer}
 use Rattle.rules.specs.declared.Evaluation.{Evaluation}
 use Rattle.rules.specs.declared.PayAnswer.{PayAnswer}
 use Rattle.rules.specs.declared.MixtureAnswer.{MixtureAnswer}
-use Rattle.rules.specs.declared.ReadOutcome.{ReadOutcome}
+use Rattle.rules.specs.declared.Outcome.{Outcome}
 use Rattle.rules.specs.declared.WriteAnswer.{WriteAnswer}
 use Rattle.rules.specs.declared.RowAnswer.{RowAnswer}
 use Rattle.rules.specs.Said.{Said, refused, answers}
 use Rattle.rules.specs.Refusals.{number-of}
-use Rattle.rules.specs.Answers.{mean-said, deviation-said, evaluation-said, pay-said, mixture-said, read-outcome-said, ReadSaid, read-said, write-said, row-said}
+use Rattle.rules.specs.Answers.{mean-said, deviation-said, evaluation-said, pay-said, mixture-said, outcome-said, ReadSaid, read-said, write-said, row-said}
 
 -- Two that are read alike are one.
 abbrev pub Injective : {A B : Type 0} → (A → B) → Type 0
@@ -84,12 +84,12 @@ row-injective =
     read-back row-said (read RowAnswer.Answers RowAnswer.Refused)
     (elim [ RowAnswer.Answers a ↦ refl | RowAnswer.Refused r ↦ ap RowAnswer.Refused (refusal-back r) ])
 
-read-outcome-injective : Injective read-outcome-said
-read-outcome-injective =
-    read-back read-outcome-said (read (λ _. ReadOutcome.Answers) ReadOutcome.Refused)
-    (elim [ ReadOutcome.Answers ↦ refl | ReadOutcome.Refused r ↦ ap ReadOutcome.Refused (refusal-back r) ])
+outcome-injective : Injective outcome-said
+outcome-injective =
+    read-back outcome-said (read (λ _. Outcome.Answers) Outcome.Refused)
+    (elim [ Outcome.Answers ↦ refl | Outcome.Refused r ↦ ap Outcome.Refused (refusal-back r) ])
 
 -- and the lot that was read counts as it is
 pub read-injective : Injective read-said
 read-injective x y e =
-    λ i. record { said = read-outcome-injective (x .said) (y .said) (ap (λ (r : ReadSaid). r .said) e) i; lot = e i .lot }
+    λ i. record { said = outcome-injective (x .said) (y .said) (ap (λ (r : ReadSaid). r .said) e) i; lot = e i .lot }

@@ -8,11 +8,12 @@ use lib.ListN.{length}
 use lib.Signed.{leZ, ltZ}
 use Rattle.rules.specs.declared.Limit.{Limit}
 use Rattle.rules.specs.declared.Limit.the-variants.{Absent, At}
+use Rattle.rules.specs.declared.Totals.{Totals}
 use Rattle.rules.specs.declared.Percentages.{Percentages}
 use Rattle.rules.specs.Units.{thousandths}
 use Rattle.rules.specs.Said.{Said, refused, answers}
 use Rattle.rules.specs.Lot.{lot-of}
-use Rattle.rules.specs.Percent.{Totals, totals, spread, upper-distance, index-squared, midpoint-squared}
+use Rattle.rules.specs.Percent.{totals, spread, upper-distance, index-squared, midpoint-squared}
 use Rattle.rules.specs.Entries.{evaluation-says, deviation-says}
 
 pub data Example : Type 0 where

@@ -11,7 +11,7 @@ use Rattle.rules.specs.declared.PayAnswer.{PayAnswer}
 use Rattle.rules.specs.declared.MixtureLimits.{MixtureLimits}
 use Rattle.rules.specs.declared.MixtureAnswer.{MixtureAnswer}
 use Rattle.rules.specs.declared.HeldLot.{HeldLot}
-use Rattle.rules.specs.declared.ReadOutcome.{ReadOutcome}
+use Rattle.rules.specs.declared.Outcome.{Outcome}
 use Rattle.rules.specs.declared.ReadAnswer.{ReadAnswer}
 use Rattle.rules.specs.declared.WriteAnswer.{WriteAnswer}
 use Rattle.rules.specs.declared.Row.{Row}
@@ -39,9 +39,9 @@ abbrev pub mixture-said : MixtureAnswer → Said MixtureLimits
 mixture-said (MixtureAnswer.Answers l) = answers l
 mixture-said (MixtureAnswer.Refused r) = told r
 
-abbrev pub read-outcome-said : ReadOutcome → Said (Unit {0})
-read-outcome-said ReadOutcome.Answers = answers tt
-read-outcome-said (ReadOutcome.Refused r) = told r
+abbrev pub outcome-said : Outcome → Said (Unit {0})
+outcome-said Outcome.Answers = answers tt
+outcome-said (Outcome.Refused r) = told r
 
 -- a lot that was read, beside what is said of it
 pub record ReadSaid : Type 0 where
@@ -49,7 +49,7 @@ pub record ReadSaid : Type 0 where
   pub lot : HeldLot
 
 abbrev pub read-said : ReadAnswer → ReadSaid
-read-said r = record { said = read-outcome-said (r .said); lot = r .lot }
+read-said r = record { said = outcome-said (r .said); lot = r .lot }
 
 abbrev pub write-said : WriteAnswer → Said ℕ
 write-said (WriteAnswer.Answers size) = answers size

@@ -7,6 +7,7 @@ use Rattle.rules.specs.declared.Thousandths.{Thousandths}
 use Rattle.rules.specs.declared.Limit.{Limit}
 use Rattle.rules.specs.declared.Limit.the-variants.{Absent}
 use Rattle.rules.specs.declared.HeldLot.{HeldLot}
+use Rattle.rules.specs.declared.Totals.{Totals}
 use Rattle.rules.specs.declared.Mean.{Mean}
 use Rattle.rules.specs.declared.Percentages.{Percentages}
 use Rattle.rules.specs.declared.Payment.{Payment}
@@ -16,7 +17,7 @@ use Rattle.rules.specs.Units.{thousandths, hundredths}
 use Rattle.rules.specs.Said.{Said, refused, answers, ruled}
 use Rattle.rules.specs.Lot.{Lot, most}
 use Rattle.rules.specs.Table.{Table, table-106-1}
-use Rattle.rules.specs.Percent.{Rule, nearest, Totals, totals, sum, spread, upper-side, lower-side, within}
+use Rattle.rules.specs.Percent.{Rule, nearest, totals, sum, spread, upper-side, lower-side, within}
 use Rattle.rules.specs.Deviation.{deviation}
 use Rattle.rules.specs.Pay.{payment}
 use Rattle.rules.specs.Mixture.{mixture-limits}

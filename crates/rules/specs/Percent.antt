@@ -6,6 +6,7 @@ use Prim.Native.Nat.{ℕ, zero, suc, _-_, _*_}
 use lib.Dec.{eqb}
 use lib.IntN.{ℤ, pos, _+ℤ_, _-ℤ_, _*ℤ_}
 use lib.Signed.{leZ, ltZ}
+use Rattle.rules.specs.declared.Totals.{Totals}
 use Rattle.rules.specs.declared.Limit.{Limit}
 use Rattle.rules.specs.declared.Limit.the-variants.{Absent, At}
 use Rattle.rules.specs.Units.{hundred-percent}
@@ -22,11 +23,6 @@ squares [] = pos 0
 squares (x ∷ xs) = x *ℤ x +ℤ squares xs
 
 -- n, T and Z of some readings
-pub record Totals : Type 0 where
-  pub n : ℕ
-  pub t : ℤ
-  pub z : ℤ
-
 abbrev pub totals : ℕ → List ℤ → Totals
 totals n xs = record { n = n; t = sum xs; z = squares xs }
 

@@ -76,6 +76,19 @@ pub struct HeldLot {
     pub readings: [Thousandths; MOST],
 }
 
+// n, T and Z of some readings: their count, their sum and the sum of their squares.
+pub struct Totals {
+    pub n: u32,
+    pub t: i64,
+    pub z: i64,
+}
+
+// What is said where no values are, or where they stand beside it.
+pub enum Outcome {
+    Answers,
+    Refused(Refusal),
+}
+
 // The mean, unrounded: the sum of the readings and their count.
 pub struct Mean {
     pub total: Thousandths,
@@ -142,13 +155,8 @@ pub enum MixtureAnswer {
 }
 
 // An enum holds no array, so the lot that was read stands beside what is said of it: blank where it is refused.
-pub enum ReadOutcome {
-    Answers,
-    Refused(Refusal),
-}
-
 pub struct ReadAnswer {
-    pub said: ReadOutcome,
+    pub said: Outcome,
     pub lot: HeldLot,
 }
 

@@ -1,8 +1,14 @@
+pub mod Lists
 pub mod Each
 pub mod Search
 pub mod Table
 pub mod Refusals
+pub mod Ruled
 pub mod Lowest
 pub mod Answers
+pub mod Spread
+pub mod Largest
+pub mod Row
+pub mod Side
 pub mod Deviation
 pub mod Desk

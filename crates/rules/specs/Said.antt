@@ -17,3 +17,7 @@ pub record Case : Type 0 where
 unfoldable pub ruled : {A : Type 0} → List Case → A → Said A
 ruled [] a = answers a
 ruled (c ∷ cs) a = cond (c .applies) (refused (c .number)) (ruled cs a)
+
+-- whether one is given, without values
+abbrev pub checked : List Case → Said (Unit {0})
+checked cases = ruled cases tt

@@ -1,0 +1,43 @@
+-- The first case that applies, a case at a time; and whether there is one has nothing to do with the values.
+use mathlib.Core.Path.{_≡_, refl}
+use mathlib.Core.Bool.{Bool, true, false, cond}
+use mathlib.Core.List.{List, [], _∷_}
+use Prim.Native.Nat.{ℕ}
+use native.Mathlib.Omega.{arith}
+use Rattle.rules.specs.Said.{Said, refused, answers, Case, ruled, checked}
+
+pub ruled-none : {A : Type 0} (a : A) → ruled [] a ≡ answers a
+unfolding ruled
+ruled-none a = refl
+
+module _ {A : Type 0} (c : Case) (cs : List Case) (a : A) where
+  pub ruled-met : c .applies ≡ true → ruled (c ∷ cs) a ≡ refused (c .number)
+  unfolding ruled
+  ruled-met e = rw e
+
+  pub ruled-passed : c .applies ≡ false → ruled (c ∷ cs) a ≡ ruled cs a
+  unfolding ruled
+  ruled-passed e = rw e
+
+-- the values, where no refusal is given
+abbrev pub given : {A : Type 0} → A → Said (Unit {0}) → Said A
+given a (refused k) = refused k
+given a (answers u) = answers a
+
+pub ruled-given : {A : Type 0} (cs : List Case) (a : A) → ruled cs a ≡ given a (checked cs)
+unfolding ruled
+ruled-given [] a = refl
+ruled-given (c ∷ cs) a = by (c .applies) (ruled-given cs a)
+  where
+    by : (b : Bool) → ruled cs a ≡ given a (checked cs) → cond b (refused (c .number)) (ruled cs a) ≡ given a (cond b (refused (c .number)) (checked cs))
+    by true later = refl
+    by false later = later
+
+-- Where none is given, no case applies.
+pub none-met : (c : Case) (cs : List Case) → checked (c ∷ cs) ≡ answers tt → (c .applies ≡ false) × (checked cs ≡ answers tt)
+unfolding ruled
+none-met c cs = by (c .applies)
+  where
+    by : (b : Bool) → cond b (refused (c .number)) (checked cs) ≡ answers tt → (b ≡ false) × (checked cs ≡ answers tt)
+    by true e = absurd (let z : _≡_ {A = ℕ} 0 1 = cc in omega arith)
+    by false e = (refl, e)

@@ -1,0 +1,116 @@
+// The refusal table of document 01, as tests: what an entry does not answer, and by which refusal.
+use rules::Limit;
+use rules::MOST;
+use rules::Outcome;
+use rules::Refusal;
+use rules::Thousandths;
+ghost use mathlib.Core.Path.{_≡_};
+ghost use Rattle.rules.specs.Units.{in-range};
+ghost use Rattle.rules.specs.Said.{checked};
+ghost use Rattle.rules.specs.Lot.{lot-of};
+ghost use Rattle.rules.specs.Refusals.{allowed, out-of-range, any-out, range-case, none, crossed};
+ghost use Rattle.rules.specs.Meets.{readings-meet, lot-meets, evaluation-meets};
+ghost use Rattle.rules.specs.Answers.{outcome-said};
+
+fn allowed(n: usize) -> bool
+    ensures { λ r. ⌜ r ≡ allowed n ⌝ }
+{
+    (2 <= n) & (n <= MOST)
+}
+
+fn in_range(z: i32) -> bool
+    ensures { λ r. ⌜ r ≡ in-range z ⌝ }
+{
+    (-500000 <= z) & (z <= 500000)
+}
+
+fn any_out(readings: &[i32]) -> bool
+    ensures { λ r. ⌜ r ≡ any-out (now (readings .entry)) ⌝ }
+{
+    let mut out = false;
+    let mut i = readings.len();
+    while 0 < i {
+        i -= 1;
+        out = !in_range(readings[i]) | out;
+    }
+    out
+}
+
+fn out_of_range(limit: Limit) -> bool
+    ensures { λ r. ⌜ r ≡ out-of-range limit ⌝ }
+{
+    match limit {
+        Limit::Absent => false,
+        Limit::At(z) => !in_range(z.0),
+    }
+}
+
+fn none(upper: Limit, lower: Limit) -> bool
+    ensures { λ r. ⌜ r ≡ none upper lower ⌝ }
+{
+    match upper {
+        Limit::Absent => match lower {
+            Limit::Absent => true,
+            Limit::At(_) => false,
+        },
+        Limit::At(_) => false,
+    }
+}
+
+fn crossed(upper: Limit, lower: Limit) -> bool
+    ensures { λ r. ⌜ r ≡ crossed upper lower ⌝ }
+{
+    match upper {
+        Limit::Absent => false,
+        Limit::At(u) => match lower {
+            Limit::Absent => false,
+            Limit::At(l) => u.0 < l.0,
+        },
+    }
+}
+
+// 5: a present limit or a reading out of range.
+fn some_out(readings: &[i32], upper: Limit, lower: Limit) -> bool
+    ensures { λ r. ⌜ r ≡ range-case upper lower (now (readings .entry)) .applies ⌝ }
+{
+    out_of_range(upper) | out_of_range(lower) | any_out(readings)
+}
+
+// Mean and deviation: 4 and 5.
+pub fn readings(readings: &[i32]) -> Outcome
+    ensures { λ r. ⌜ outcome-said r ≡ checked (readings-meet (now (readings .entry))) ⌝ }
+{
+    if !allowed(readings.len()) {
+        Outcome::Refused(Refusal::Count)
+    } else if any_out(readings) {
+        Outcome::Refused(Refusal::Range)
+    } else {
+        Outcome::Answers
+    }
+}
+
+// What a lot can meet after its count: 5 to 7.
+pub fn lot(readings: &[i32], upper: Limit, lower: Limit) -> Outcome
+    ensures { λ r. ⌜ outcome-said r ≡ checked (lot-meets (lot-of upper lower (now (readings .entry)))) ⌝ }
+{
+    if some_out(readings, upper, lower) {
+        Outcome::Refused(Refusal::Range)
+    } else if none(upper, lower) {
+        Outcome::Refused(Refusal::Unlimited)
+    } else if crossed(upper, lower) {
+        Outcome::Refused(Refusal::Crossed)
+    } else {
+        Outcome::Answers
+    }
+}
+
+// Direct evaluation: 4 to 7.
+pub fn evaluation(readings: &[i32], upper: Limit, lower: Limit) -> Outcome
+    ensures { λ r. ⌜ outcome-said r ≡ checked (evaluation-meets (lot-of upper lower (now (readings .entry)))) ⌝ }
+{
+    if allowed(readings.len()) {
+        lot(readings, upper, lower)
+    } else {
+        Outcome::Refused(Refusal::Count)
+    }
+}

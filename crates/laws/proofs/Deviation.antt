@@ -3,6 +3,7 @@ use mathlib.Core.Path.{_≡_, refl, subst⁻¹}
 use mathlib.Core.Bool.{true, false}
 use Prim.Native.Nat.{ℕ, zero, suc, _+_, _-_, _*_, _≤_, _<_, zero-le}
 use native.Mathlib.Nat.{le-refl, le-trans, mul-le-mul, mul-le-mul-left, zero-add}
+use native.Mathlib.Decide.{decLe}
 use native.Mathlib.Omega.{arith}
 use borrow.Author.Tests.{lt-ltb, ltb-false, ne-eqb}
 use lib.Dec.{T, leb→le, le→leb, ltb→lt, eqb·suc-zero}
@@ -32,10 +33,24 @@ enough n v low =
     lt-ltb (4 * v) ((2 * v + 1) * (2 * v + 1) * n * (n - 1)) (omega arith)
 
 -- A number past one that is not before its midpoint above is from its midpoint below.
-past : (n v s : ℕ) → before-midpoint-above n (pos v) s ≡ false → T (from-midpoint-below n (pos v) (suc s))
+pub past : (n v s : ℕ) → before-midpoint-above n (pos v) s ≡ false → T (from-midpoint-below n (pos v) (suc s))
 past n v s e =
     let same : 2 * suc s - 1 ≤ 2 * s + 1 = omega arith in
     rw (eqb·suc-zero s) (le→leb _ _ (le-trans (grows n same) (ltb-false _ _ e)))
+
+-- No number from its midpoint below is large, for a V up to 10¹⁴.
+pub small : (n v s : ℕ) → 2 ≤ n → v ≤ 100000000000000 → T (from-midpoint-below n (pos v) s) → s ≤ 10000000
+small n v zero low h t = zero-le
+small n v (suc s) low h t =
+    elim (decLe (suc s) 10000000) [
+      | yes k ↦ k
+      | no k ↦
+          let odd : 20000001 ≤ 2 * suc s - 1 = omega arith in
+          let one : 1 ≤ n - 1 = omega arith in
+          let least : 20000001 * 20000001 * 2 * 1 ≤ 20000001 * 20000001 * n * (n - 1) = mul-le-mul (mul-le-mul-left (20000001 * 20000001) low) one in
+          let here : (2 * suc s - 1) * (2 * suc s - 1) * n * (n - 1) ≤ 4 * v = leb→le _ _ (rw (eqb·suc-zero s) at t) in
+          absurd (omega (arith, grows n odd))
+    ]
 
 -- The deviation meets both.
 pub meets : (n v : ℕ) → 2 ≤ n → T (is-deviation n (pos v) (deviation n (pos v)))

@@ -3,10 +3,13 @@ pub mod Each
 pub mod Search
 pub mod Table
 pub mod Refusals
+pub mod Tests
 pub mod Ruled
 pub mod Lowest
 pub mod Answers
 pub mod Spread
+pub mod Bounds
+pub mod Accepted
 pub mod Largest
 pub mod Row
 pub mod Side

@@ -1,10 +1,14 @@
 -- The first case that applies, a case at a time; and whether there is one has nothing to do with the values.
-use mathlib.Core.Path.{_≡_, refl}
+use mathlib.Core.Path.{_≡_, refl, sym, ap, _∙_}
 use mathlib.Core.Bool.{Bool, true, false, cond}
 use mathlib.Core.List.{List, [], _∷_}
 use Prim.Native.Nat.{ℕ}
 use native.Mathlib.Omega.{arith}
+use Rattle.rules.specs.declared.Outcome.{Outcome}
+use Rattle.rules.specs.declared.Refusal.{Refusal}
 use Rattle.rules.specs.Said.{Said, refused, answers, Case, ruled, checked}
+use Rattle.rules.specs.Refusals.{told}
+use Rattle.rules.specs.Answers.{outcome-said}
 
 pub ruled-none : {A : Type 0} (a : A) → ruled [] a ≡ answers a
 unfolding ruled
@@ -41,3 +45,15 @@ none-met c cs = by (c .applies)
     by : (b : Bool) → cond b (refused (c .number)) (checked cs) ≡ answers tt → (b ≡ false) × (checked cs ≡ answers tt)
     by true e = absurd (let z : _≡_ {A = ℕ} 0 1 = cc in omega arith)
     by false e = (refl, e)
+
+-- ---- an entry that asks for the outcome first, and has values where none is refused
+
+module _ (cs : List Case) {o : Outcome} (e : outcome-said o ≡ checked cs) where
+  pub sound : o ≡ Outcome.Answers → checked cs ≡ answers tt
+  sound h = sym e ∙ ap outcome-said h
+
+  pub outcome-answers : {A : Type 0} (a : A) → o ≡ Outcome.Answers → ruled cs a ≡ answers a
+  outcome-answers a h = ruled-given cs a ∙ ap (given a) (sound h)
+
+  pub outcome-refused : {A : Type 0} (a : A) {r : Refusal} → o ≡ Outcome.Refused r → ruled cs a ≡ told r
+  outcome-refused a h = ruled-given cs a ∙ ap (given a) (sym e ∙ ap outcome-said h)

@@ -1,3 +1,4 @@
 pub mod Every
 pub mod Column
+pub mod Bounds
 pub mod Desk

@@ -1,0 +1,96 @@
+-- Bounds of readings in range, of their totals and of what is worked out from them.
+use mathlib.Core.Path.{_≡_, refl, subst⁻¹}
+use mathlib.Core.Bool.{true, false, not, and-eq-true-iff}
+use mathlib.Core.List.{List, [], _∷_}
+use Prim.Native.Nat.{ℕ, zero, suc, _*_, _≤_, _<_, zero-le}
+use native.Mathlib.Nat.{le-trans, le-of-suc-le-suc, mul-le-mul}
+use native.Mathlib.Omega.{arith}
+use borrow.Author.Tests.{not-false}
+use lib.IntN.{ℤ, pos, negsuc, negℤ, natAbs, _-ℤ_, _*ℤ_}
+use lib.ListN.{length, drop, getD}
+use lib.Signed.{_≤ℤ_, leZ}
+use Rattle.integers.proofs.Difference.{var, nat, eq-diff, _⊖_}
+use Rattle.integers.proofs.Order.{leZ-true}
+use Rattle.integers.proofs.Magnitude.{within, natAbs-parts, natAbs-add, natAbs-mul}
+use Rattle.integers.proofs.Square.{square, square-nonneg}
+use Rattle.rules.specs.declared.Totals.{Totals}
+use Rattle.rules.specs.Units.{in-range}
+use Rattle.rules.specs.Lot.{most}
+use Rattle.rules.specs.Percent.{sum, squares, totals, spread}
+use Rattle.rules.specs.Refusals.{any-out}
+use Rattle.laws.specs.Bounds.{Accepted, Bounded}
+use Rattle.laws.proofs.Tests.{neither}
+use Rattle.laws.proofs.Spread.{spread-never-negative}
+
+pub in-range-bound : (z : ℤ) → in-range z ≡ true → natAbs z ≤ 500000
+in-range-bound z e =
+    let h : (leZ (negℤ (pos 500000)) z ≡ true) × (leZ z (pos 500000) ≡ true) = and-eq-true-iff (leZ (negℤ (pos 500000)) z) (leZ z (pos 500000)) .0 e in
+    within {b = 500000} {z = z} (leZ-true _ _ (h .0)) (leZ-true _ _ (h .1))
+
+-- The first of some readings in range, and the others.
+module _ (x : ℤ) (xs : List ℤ) (e : any-out (x ∷ xs) ≡ false) where
+  parts : (not (in-range x) ≡ false) × (any-out xs ≡ false)
+  unfolding any-out
+  parts = neither (not (in-range x)) (any-out xs) e
+
+  first-bound : natAbs x ≤ 500000
+  first-bound = in-range-bound x (not-false (in-range x) (parts .0))
+
+pub rest-in-range : (i : ℕ) (xs : List ℤ) → any-out xs ≡ false → any-out (drop i xs) ≡ false
+rest-in-range zero xs e = e
+rest-in-range (suc i) [] e = e
+rest-in-range (suc i) (x ∷ xs) e = rest-in-range i xs (parts x xs e .1)
+
+pub reading-bound : (xs : List ℤ) (i : ℕ) → any-out xs ≡ false → i < length xs → natAbs (getD xs i (pos 0)) ≤ 500000
+reading-bound [] i e h = absurd (omega arith)
+reading-bound (x ∷ xs) zero e h = first-bound x xs e
+reading-bound (x ∷ xs) (suc i) e h = reading-bound xs i (parts x xs e .1) (le-of-suc-le-suc h)
+
+pub sum-bound : (xs : List ℤ) → any-out xs ≡ false → natAbs (sum xs) ≤ length xs * 500000
+unfolding sum
+sum-bound [] e = zero-le
+sum-bound (x ∷ xs) e = omega (arith, natAbs-add x (sum xs), first-bound x xs e, sum-bound xs (parts x xs e .1))
+
+pub squares-bound : (xs : List ℤ) → any-out xs ≡ false → natAbs (squares xs) ≤ length xs * 250000000000
+unfolding squares
+squares-bound [] e = zero-le
+squares-bound (x ∷ xs) e =
+    let h : natAbs x ≤ 500000 = first-bound x xs e in
+    omega (arith, natAbs-add (x *ℤ x) (squares xs), natAbs-mul x x, mul-le-mul h h, squares-bound xs (parts x xs e .1))
+
+pub totals-bounded : {xs : List ℤ} {a : Totals} → Accepted xs → a ≡ totals (length xs) xs → Bounded a
+totals-bounded {xs} h e =
+    subst⁻¹ Bounded e
+    (record {
+      least = h .least;
+      few = h .few;
+      sum = sum-bound xs (h .near);
+      squares = squares-bound xs (h .near);
+      spread-not-negative = spread-never-negative xs;
+    })
+
+-- ---- V
+
+-- What is left of w, without more than w, is not above it.
+left-of : (v w q : ℤ) → pos 0 ≤ℤ v → pos 0 ≤ℤ q → v ≡ w -ℤ q → natAbs v ≤ natAbs w
+left-of (pos a) w (pos b) h k e = omega (arith, natAbs-parts w, eq-diff (nat a) (var w ⊖ nat b) e)
+left-of (pos a) w (negsuc b) h k e = absurd (k .le)
+left-of (negsuc a) w q h k e = absurd (h .le)
+
+-- The products that V is the difference of, and V itself, which is not above the first.
+pub record Spread (a : Totals) : Type 0 where
+  pub product : natAbs (pos (a .n) *ℤ a .z) ≤ most * (most * 250000000000)
+  pub square : natAbs (a .t *ℤ a .t) ≤ most * 500000 * (most * 500000)
+  pub spread : natAbs (spread a) ≤ most * (most * 250000000000)
+
+pub spread-bound : {a : Totals} → Bounded a → Spread a
+unfolding spread square
+spread-bound {a} h =
+    let z : natAbs (a .z) ≤ most * 250000000000 = omega (arith, h .few, h .squares) in
+    let t : natAbs (a .t) ≤ most * 500000 = omega (arith, h .few, h .sum) in
+    let p : natAbs (pos (a .n) *ℤ a .z) ≤ most * (most * 250000000000) = omega (arith, natAbs-mul (pos (a .n)) (a .z), mul-le-mul (h .few) z) in
+    record {
+      product = p;
+      square = omega (arith, natAbs-mul (a .t) (a .t), mul-le-mul t t);
+      spread = le-trans (left-of (spread a) (pos (a .n) *ℤ a .z) (a .t *ℤ a .t) (h .spread-not-negative) (square-nonneg (a .t)) refl) p;
+    }

@@ -1,0 +1,70 @@
+-- The search keeps to numbers from their midpoint below, which are small; the first before its midpoint above is s.
+use mathlib.Core.Path.{_≡_, sym, _∙_, subst⁻¹}
+use mathlib.Core.Bool.{true, false}
+use Prim.Native.Nat.{ℕ, suc, _+_, _-_, _≤_}
+use native.Mathlib.Numerals.{add-one}
+use native.Mathlib.Omega.{arith}
+use borrow.Author.Needs.{needs}
+use borrow.Author.Tests.{not-true, not-false}
+use lib.Dec.{T}
+use lib.Ieee.Fits.{and-i}
+use lib.IntN.{pos}
+use Rattle.rules.specs.Deviation.{before-midpoint-above, from-midpoint-below}
+use Rattle.laws.proofs.Deviation.{past, small, determined}
+use Rattle.readings.proofs.rounded.Statement.{statement}
+use Rattle.readings.proofs.rounded.Tie as tie
+
+abbrev Inv-loop : tie.InvT-loop
+Inv-loop n v s₀ s = T (from-midpoint-below n (pos v) s)
+
+abbrev μ-loop : tie.MeasureT-loop
+μ-loop n v s₀ s = 10000001 - s
+
+loop-holds : tie.Need-loop-holds Inv-loop μ-loop
+loop-holds c = tt
+
+before-midpoint-above-requires : tie.Need-before-midpoint-above-requires Inv-loop μ-loop
+before-midpoint-above-requires c κs =
+    let p = c .before .pre in
+    (p .0, p .1, p .2, small (c .before .args .n) (c .before .args .v) (c .loop .s) (p .0) (p .2) (c .loop .inv))
+
+add-s : tie.Need-add-s Inv-loop μ-loop
+add-s c =
+    let p = c .before .before .before .pre in
+    omega (arith, small (c .before .before .before .args .n) (c .before .before .before .args .v) (c .before .before .loop .s) (p .0) (p .2) (c .before .before .loop .inv))
+
+loop-less : tie.Need-loop-less Inv-loop μ-loop
+loop-less c =
+    let p = c .before .before .before .pre in
+    omega (arith, small (c .before .before .before .args .n) (c .before .before .before .args .v) (c .before .before .loop .s) (p .0) (p .2) (c .before .before .loop .inv))
+
+loop-again : tie.Need-loop-again Inv-loop μ-loop
+loop-again c =
+    rw (add-one (c .before .before .loop .s))
+    (past (c .before .before .before .args .n) (c .before .before .before .args .v) (c .before .before .loop .s)
+    (sym (c .before .before-midpoint-above .ensures) ∙ not-true _ (c .if1 .taken)))
+
+returns : tie.Need-returns Inv-loop μ-loop
+returns c =
+    let n : ℕ = c .before .before .before .args .n in
+    let v : ℕ = c .before .before .before .args .v in
+    let s : ℕ = c .before .before .loop .s in
+    let p = c .before .before .before .pre in
+    let below : T (from-midpoint-below n (pos v) s) = c .before .before .loop .inv in
+    let above : before-midpoint-above n (pos v) s ≡ true = sym (c .before .before-midpoint-above .ensures) ∙ not-false _ (c .if1 .left) in (
+      sym (determined n v s (p .0) (and-i (before-midpoint-above n (pos v) s) (from-midpoint-below n (pos v) s) (subst⁻¹ T above tt) below)),
+      small n v s (p .0) (p .2) below,
+    )
+
+pub rounded-spec : {M : Type 1} → statement M
+rounded-spec =
+    tie.close
+    (tie.spec
+    Inv-loop
+    μ-loop
+    loop-holds
+    before-midpoint-above-requires
+    add-s
+    loop-less
+    loop-again
+    returns)

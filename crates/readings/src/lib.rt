@@ -1,0 +1,121 @@
+// Mean and deviation of a lent list of readings, in thousandths, and the totals that they and the lookups are worked out from.
+use rules::DeviationAnswer;
+use rules::Mean;
+use rules::MeanAnswer;
+use rules::Outcome;
+use rules::Refusal;
+use rules::Thousandths;
+use rules::Totals;
+ghost use mathlib.Core.Path.{_≡_};
+ghost use Prim.Native.Nat.{_*_, _^_, _≤_, _<_};
+ghost use lib.IntN.{pos, natAbs, _+ℤ_, _-ℤ_, _*ℤ_};
+ghost use lib.ListN.{length};
+ghost use mir.Syntax.{w32, w64};
+ghost use mir.Val.{SFits};
+ghost use Rattle.rules.specs.Lot.{most};
+ghost use Rattle.rules.specs.Percent.{totals, spread};
+ghost use Rattle.rules.specs.Deviation.{before-midpoint-above, deviation};
+ghost use Rattle.rules.specs.Answers.{mean-said, deviation-said};
+ghost use Rattle.rules.specs.Entries.{mean-says, deviation-says};
+ghost use Rattle.laws.specs.Bounds.{Accepted, Bounded};
+
+// A number without its sign. Inner: total, but no entry.
+pub fn magnitude(z: i64) -> u64
+    ensures { λ r. ⌜ r ≡ natAbs z ⌝ }
+{
+    if z < 0 { (-1 - z) as u64 + 1 } else { z as u64 }
+}
+
+// One reading more; n is what it was.
+fn step(a: Totals, x: i64) -> Totals
+    requires { ⌜ (natAbs x ≤ 500000) × (natAbs (a .t) ≤ most * 500000) × (natAbs (a .z) ≤ most * 250000000000) ⌝ }
+    ensures { λ r. ⌜ (r .n ≡ a .n) × (r .t ≡ x +ℤ a .t) × (r .z ≡ x *ℤ x +ℤ a .z) ⌝ }
+{
+    Totals {
+        n: a.n,
+        t: x + a.t,
+        z: x * x + a.z,
+    }
+}
+
+// n, T and Z. Inner: the entries pass readings that are not refused.
+pub fn totals(readings: &[i32]) -> Totals
+    requires { ⌜ Accepted (now readings) ⌝ }
+    ensures { λ r. ⌜ r ≡ totals (length (now (readings .entry))) (now (readings .entry)) ⌝ }
+{
+    let mut a = Totals {
+        n: readings.len() as u32,
+        t: 0,
+        z: 0,
+    };
+    let mut i = readings.len();
+    while 0 < i {
+        i -= 1;
+        a = step(a, readings[i] as i64);
+    }
+    a
+}
+
+fn difference(n: i64, t: i64, z: i64) -> i64
+    requires { ⌜ SFits w64 (n *ℤ z) × SFits w64 (t *ℤ t) × SFits w64 (n *ℤ z -ℤ t *ℤ t) ⌝ }
+    ensures { λ r. ⌜ r ≡ n *ℤ z -ℤ t *ℤ t ⌝ }
+{
+    n * z - t * t
+}
+
+// V, which is never negative. Inner: the entries pass totals of readings that are not refused.
+pub fn spread(a: Totals) -> u64
+    requires { ⌜ Bounded a ⌝ }
+    ensures { λ r. ⌜ pos r ≡ spread a ⌝ }
+{
+    magnitude(difference(a.n as i64, a.t, a.z))
+}
+
+// 4V < (2s+1)²·n·(n−1)
+fn before_midpoint_above(n: u64, v: u64, s: u64) -> bool
+    requires { ⌜ (2 ≤ n) × (n ≤ most) × (v ≤ 100000000000000) × (s ≤ 10000000) ⌝ }
+    ensures { λ r. ⌜ r ≡ before-midpoint-above n (pos v) s ⌝ }
+{
+    4 * v < (2 * s + 1) * (2 * s + 1) * n * (n - 1)
+}
+
+// s, by a search from zero.
+fn rounded(n: u64, v: u64) -> u64
+    requires { ⌜ (2 ≤ n) × (n ≤ most) × (v ≤ 100000000000000) ⌝ }
+    ensures { λ r. ⌜ (r ≡ deviation n (pos v)) × (r ≤ 10000000) ⌝ }
+{
+    let mut s = 0;
+    while !before_midpoint_above(n, v, s) {
+        s += 1;
+    }
+    s
+}
+
+// The mean, unrounded.
+pub fn mean(readings: &[i32]) -> MeanAnswer
+    ensures { λ r. ⌜ mean-said r ≡ mean-says (now (readings .entry)) ⌝ }
+{
+    match refusals::readings(readings) {
+        Outcome::Refused(refusal) => MeanAnswer::Refused(refusal),
+        Outcome::Answers => {
+            let a = totals(readings);
+            MeanAnswer::Answers(Mean {
+                total: Thousandths(a.t as i32),
+                count: a.n,
+            })
+        }
+    }
+}
+
+// The deviation, rounded to the nearest thousandth. It is shown to people; no lookup uses it.
+pub fn deviation(readings: &[i32]) -> DeviationAnswer
+    ensures { λ r. ⌜ deviation-said r ≡ deviation-says (now (readings .entry)) ⌝ }
+{
+    match refusals::readings(readings) {
+        Outcome::Refused(refusal) => DeviationAnswer::Refused(refusal),
+        Outcome::Answers => {
+            let a = totals(readings);
+            DeviationAnswer::Answers(Thousandths(rounded(a.n as u64, spread(a)) as i32))
+        }
+    }
+}

@@ -1,6 +1,6 @@
 -- What holds of a lot that is not refused.
 use mathlib.Core.Path.{_≡_}
-use mathlib.Core.Bool.{Bool, true, false, not, and-eq-true-iff, _&&_, _||_}
+use mathlib.Core.Bool.{true, false, and-eq-true-iff, _||_}
 use mathlib.Core.List.{List, [], _∷_}
 use Prim.Native.Nat.{ℕ, _≤_}
 use borrow.Author.Tests.{leb-true, not-false}

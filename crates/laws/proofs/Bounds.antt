@@ -1,5 +1,5 @@
 -- Bounds of readings in range, of their totals and of what is worked out from them.
-use mathlib.Core.Path.{_≡_, refl, subst⁻¹}
+use mathlib.Core.Path.{_≡_, refl, sym, ap, _∙_, subst⁻¹}
 use mathlib.Core.Bool.{true, false, not, and-eq-true-iff}
 use mathlib.Core.List.{List, [], _∷_}
 use Prim.Native.Nat.{ℕ, zero, suc, _*_, _≤_, _<_, zero-le}
@@ -11,14 +11,17 @@ use lib.ListN.{length, drop, getD}
 use lib.Signed.{_≤ℤ_, leZ}
 use Rattle.integers.proofs.Difference.{var, nat, eq-diff, _⊖_}
 use Rattle.integers.proofs.Order.{leZ-true}
-use Rattle.integers.proofs.Magnitude.{within, natAbs-parts, natAbs-add, natAbs-mul}
+use Rattle.integers.proofs.Magnitude.{within, natAbs-parts, natAbs-add, natAbs-sub, natAbs-mul}
 use Rattle.integers.proofs.Square.{square, square-nonneg}
 use Rattle.rules.specs.declared.Totals.{Totals}
+use Rattle.rules.specs.declared.Thousandths.{Thousandths}
+use Rattle.rules.specs.declared.Limit.{Limit}
+use Rattle.rules.specs.declared.Limit.the-variants.{At}
 use Rattle.rules.specs.Units.{in-range}
 use Rattle.rules.specs.Lot.{most}
-use Rattle.rules.specs.Percent.{sum, squares, totals, spread}
-use Rattle.rules.specs.Refusals.{any-out}
-use Rattle.laws.specs.Bounds.{Accepted, Bounded}
+use Rattle.rules.specs.Percent.{sum, squares, totals, spread, upper-distance, lower-distance}
+use Rattle.rules.specs.Refusals.{out-of-range, any-out}
+use Rattle.laws.specs.Bounds.{Accepted, Bounded, Spreads, Distant}
 use Rattle.laws.proofs.Tests.{neither}
 use Rattle.laws.proofs.Spread.{spread-never-negative}
 
@@ -94,3 +97,23 @@ spread-bound {a} h =
       square = omega (arith, natAbs-mul (a .t) (a .t), mul-le-mul t t);
       spread = le-trans (left-of (spread a) (pos (a .n) *ℤ a .z) (a .t *ℤ a .t) (h .spread-not-negative) (square-nonneg (a .t)) refl) p;
     }
+
+pub spreads : {a : Totals} {v : ℕ} → Bounded a → pos v ≡ spread a → Spreads (a .n) v
+spreads h e = record { least = h .least; few = h .few; small = omega (arith, ap natAbs e, spread-bound h .spread) }
+
+-- ---- distances
+
+pub limit-bound : (limit : Limit) {z : Thousandths} → limit ≡ At z → out-of-range limit ≡ false → natAbs (z .0) ≤ 500000
+limit-bound limit {z} e h = in-range-bound (z .0) (not-false (in-range (z .0)) (sym (ap out-of-range e) ∙ h))
+
+product-bound : {a : Totals} (z : ℤ) → Bounded a → natAbs z ≤ 500000 → natAbs (pos (a .n) *ℤ z) ≤ most * 500000
+product-bound {a} z h near = omega (arith, natAbs-mul (pos (a .n)) z, mul-le-mul (h .few) near)
+
+module _ {a : Totals} (z : ℤ) (h : Bounded a) (near : natAbs z ≤ 500000) where
+  pub upper-distant : Distant (natAbs (upper-distance a z))
+  unfolding upper-distance
+  upper-distant = record { small = omega (arith, natAbs-sub (pos (a .n) *ℤ z) (a .t), product-bound z h near, h .few, h .sum) }
+
+  pub lower-distant : Distant (natAbs (lower-distance a z))
+  unfolding lower-distance
+  lower-distant = record { small = omega (arith, natAbs-sub (a .t) (pos (a .n) *ℤ z), product-bound z h near, h .few, h .sum) }

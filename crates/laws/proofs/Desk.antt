@@ -12,7 +12,7 @@ use Rattle.rules.specs.Percent.{sum, squares, spread, upper-distance, lower-dis
 use Rattle.rules.specs.Deviation.{is-deviation, deviation}
 use Rattle.rules.specs.Refusals.{any-out}
 use Rattle.rules.specs.Meets.{readings-meet, evaluation-meets}
-use Rattle.rules.specs.Entries.{evaluated, evaluation-says, deviation-says, percentages}
+use Rattle.rules.specs.Entries.{evaluated, evaluation-says, deviation-says, percentages-of}
 use Rattle.laws.specs.Every.{Every, done, _then_}
 use Rattle.laws.specs.Desk.{Holds, examples}
 use Rattle.laws.proofs.Deviation.{determined}
@@ -21,7 +21,7 @@ found : (n v : ℕ) {s : ℕ} → 2 ≤ n → T (is-deviation n (pos v) s) → _
 found n v {s} low t = ap (λ (m : ℕ). answers (thousandths (pos m))) (determined n v s low t)
 
 pub desk : Every Holds examples
-unfolding ruled rows table-106-1 sum squares spread upper-distance lower-distance index-squared midpoint-squared admits largest nearest side upper-side lower-side any-out readings-meet evaluation-meets evaluated evaluation-says deviation-says percentages
+unfolding ruled rows table-106-1 sum squares spread upper-distance lower-distance index-squared midpoint-squared admits largest nearest side upper-side lower-side any-out readings-meet evaluation-meets evaluated evaluation-says deviation-says percentages-of
 desk =
     refl then  -- D1
     refl then  -- D2

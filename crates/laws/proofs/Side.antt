@@ -1,26 +1,27 @@
 -- A side's percentage lies in 0 to 10,000, by any rule for rows and any column.
+use mathlib.Core.Path.{_≡_, refl, ap}
 use mathlib.Core.Bool.{Bool, true, false, cond}
-use lib.IntN.{ℤ, pos, _-ℤ_}
-use lib.Signed.{_≤ℤ_, leZ, ltZ}
+use lib.IntN.{ℤ, pos, natAbs, _-ℤ_}
+use lib.Signed.{leZ, ltZ}
 use Prim.Native.Nat.{ℕ, _≤_, zero-le}
 use native.Mathlib.Nat.{le-refl}
 use native.Mathlib.Omega.{arith}
-use Rattle.integers.proofs.Difference.{nat, diff-le, _⊖_}
-use Rattle.integers.proofs.Order.{pos-mono}
+use Rattle.integers.proofs.Difference.{nat, diff-le, ⊝_, _⊖_}
+use Rattle.integers.proofs.Order.{≤ℤ-trans, pos-mono}
+use Rattle.integers.proofs.Magnitude.{within}
 use Rattle.rules.specs.declared.Limit.{Limit}
 use Rattle.rules.specs.declared.Limit.the-variants.{Absent, At}
 use Rattle.rules.specs.declared.Totals.{Totals}
 use Rattle.rules.specs.Units.{hundred-percent}
 use Rattle.rules.specs.Table.{Table, entry, last-row}
-use Rattle.rules.specs.Percent.{Rule, spread, upper-distance, lower-distance, side, upper-side, lower-side}
+use Rattle.rules.specs.Percent.{Rule, nearest, spread, upper-distance, lower-distance, side, upper-side, lower-side}
 use Rattle.laws.specs.Column.{Column}
+use Rattle.laws.specs.InPercent.{InPercent}
+use Rattle.laws.specs.Reached.{reached}
+use Rattle.laws.proofs.Row.{row-by-magnitude}
+use Rattle.laws.proofs.Table.{entry-at-most}
 
--- It is a percentage: from 0 to 10,000.
-pub record InPercent (z : ℤ) : Type 0 where
-  pub low : pos 0 ≤ℤ z
-  pub high : z ≤ℤ hundred-percent
-
--- A number up to 10,000 is one, and so is the rest to 10,000.
+-- A number up to 10,000 is a percentage, and so is the rest to 10,000.
 itself : (e : ℕ) → e ≤ 10000 → InPercent (pos e)
 itself e h = record { low = pos-mono zero-le; high = pos-mono h }
 
@@ -31,23 +32,58 @@ rest e h =
       high = diff-le (nat 10000 ⊖ nat e) (nat 10000) (omega arith);
     }
 
+pub percent-magnitude : {z : ℤ} → InPercent z → natAbs z ≤ 10000
+percent-magnitude h = within (≤ℤ-trans (diff-le (⊝ nat 10000) (nat 0) (omega arith)) (h .low)) (h .high)
+
+module _ (rule : Rule) (table : Table) (n : ℕ) (v d : ℤ) where
+  pub reached-entry : ltZ (pos 0) v ≡ true → reached rule table n v d ≡ entry table n (rule n v d)
+  unfolding reached
+  reached-entry e = rw e
+
+  pub reached-whole : ltZ (pos 0) v ≡ false → reached rule table n v d ≡ 10000
+  unfolding reached
+  reached-whole e = rw e
+
+  pub reached-at-most : rule n v d ≤ last-row → Column (table n) → reached rule table n v d ≤ 10000
+  unfolding reached
+  reached-at-most h column = by (ltZ (pos 0) v)
+    where
+      by : (b : Bool) → cond b (entry table n (rule n v d)) 10000 ≤ 10000
+      by true = entry-at-most column h
+      by false = le-refl 10000
+
+  -- The side is what it reaches, and below zero the rest to 10,000.
+  pub side-inside : leZ (pos 0) d ≡ true → side rule table n v d ≡ pos (reached rule table n v d)
+  unfolding side reached
+  side-inside e = rw e (by (ltZ (pos 0) v))
+    where
+      by : (b : Bool) → cond b (pos (entry table n (rule n v d))) hundred-percent ≡ pos (cond b (entry table n (rule n v d)) 10000)
+      by true = refl
+      by false = refl
+
+  pub side-outside : leZ (pos 0) d ≡ false → side rule table n v d ≡ hundred-percent -ℤ pos (reached rule table n v d)
+  unfolding side reached
+  side-outside e = rw e (by (ltZ (pos 0) v))
+    where
+      by : (b : Bool) → cond b (hundred-percent -ℤ pos (entry table n (rule n v d))) (pos 0) ≡ hundred-percent -ℤ pos (cond b (entry table n (rule n v d)) 10000)
+      by true = refl
+      by false = refl
+
+-- By the nearest row, it does not ask which way the distance points.
+pub reached-by-magnitude : (table : Table) (n : ℕ) (v d : ℤ) → reached nearest table n v (pos (natAbs d)) ≡ reached nearest table n v d
+unfolding reached
+reached-by-magnitude table n v d = ap (λ (k : ℕ). cond (ltZ (pos 0) v) (entry table n k) 10000) (row-by-magnitude n v d)
+
 module _ (rule : Rule) (table : Table) (rows : (n : ℕ) (v d : ℤ) → rule n v d ≤ last-row) where
   pub side-in-percent : (n : ℕ) (v d : ℤ) → Column (table n) → InPercent (side rule table n v d)
-  unfolding side
-  side-in-percent n v d column = by (ltZ (pos 0) v) (leZ (pos 0) d)
+  side-in-percent n v d column = by (leZ (pos 0) d) refl
     where
-      e : ℕ
-      e = entry table n (rule n v d)
+      small : reached rule table n v d ≤ 10000
+      small = reached-at-most rule table n v d (rows n v d) column
 
-      -- The entry is not above the column's last, which is 10,000.
-      small : e ≤ 10000
-      small = omega (arith, column .never-falls (rule n v d) last-row (rows n v d) (le-refl last-row), column .ends)
-
-      by : (spreads inside : Bool) → InPercent (cond spreads (cond inside (pos e) (hundred-percent -ℤ pos e)) (cond inside hundred-percent (pos 0)))
-      by true true = itself e small
-      by true false = rest e small
-      by false true = itself 10000 (le-refl 10000)
-      by false false = itself 0 zero-le
+      by : (b : Bool) → leZ (pos 0) d ≡ b → InPercent (side rule table n v d)
+      by true e = rw (side-inside rule table n v d e) (itself (reached rule table n v d) small)
+      by false e = rw (side-outside rule table n v d e) (rest (reached rule table n v d) small)
 
   pub upper-side-in-percent : (a : Totals) (upper : Limit) → Column (table (a .n)) → InPercent (upper-side rule table a upper)
   unfolding upper-side

@@ -43,6 +43,10 @@ column xs t =
       ends = eqb→eq _ _ (and-r (long && first && rising) last t);
     }
 
+-- No entry is above the last, which is 10,000.
+pub entry-at-most : {xs : List ℕ} {k : ℕ} → Column xs → k ≤ last-row → getD xs k 0 ≤ 10000
+entry-at-most {xs} {k} column h = omega (arith, column .never-falls k last-row h (le-refl last-row), column .ends)
+
 -- One test over the whole table: columns n = 2 to 10.
 pub whole-table : T (each (λ n. well-formed (table-106-1 n)) 9 2)
 unfolding rows table-106-1

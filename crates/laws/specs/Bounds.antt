@@ -2,7 +2,7 @@
 use mathlib.Core.Path.{_≡_}
 use mathlib.Core.Bool.{false}
 use mathlib.Core.List.{List}
-use Prim.Native.Nat.{_*_, _≤_}
+use Prim.Native.Nat.{ℕ, _*_, _≤_}
 use lib.IntN.{ℤ, pos, natAbs}
 use lib.ListN.{length}
 use lib.Signed.{_≤ℤ_}
@@ -23,3 +23,13 @@ pub record Bounded (a : Totals) : Type 0 where
   pub sum : natAbs (a .t) ≤ a .n * 500000
   pub squares : natAbs (a .z) ≤ a .n * 250000000000
   pub spread-not-negative : pos 0 ≤ℤ spread a
+
+-- n and V as a lookup has them,
+pub record Spreads (n v : ℕ) : Type 0 where
+  pub least : 2 ≤ n
+  pub few : n ≤ most
+  pub small : v ≤ most * (most * 250000000000)
+
+-- and the magnitude of a distance.
+pub record Distant (d : ℕ) : Type 0 where
+  pub small : d ≤ 2 * (most * 500000)

@@ -41,12 +41,14 @@ deviation-says xs = ruled (readings-meet xs) (thousandths (deviation-of (length 
 -- ---- direct evaluation
 
 module _ (rule : Rule) (table : Table) where
-  unfoldable pub percentages : Lot → Percentages
-  percentages lot =
-      let a : Totals = totals (lot .n) (lot .readings) in
-      let upper : ℤ = upper-side rule table a (lot .upper) in
-      let lower : ℤ = lower-side rule table a (lot .lower) in
-      record { upper = hundredths upper; lower = hundredths lower; pwl = hundredths (within upper lower) }
+  unfoldable pub percentages-of : Totals → Limit → Limit → Percentages
+  percentages-of a upper lower =
+      let u : ℤ = upper-side rule table a upper in
+      let l : ℤ = lower-side rule table a lower in
+      record { upper = hundredths u; lower = hundredths l; pwl = hundredths (within u l) }
+
+  abbrev pub percentages : Lot → Percentages
+  percentages lot = percentages-of (totals (lot .n) (lot .readings)) (lot .upper) (lot .lower)
 
   unfoldable pub evaluated : Lot → Said Percentages
   evaluated lot = ruled (evaluation-meets lot) (percentages lot)

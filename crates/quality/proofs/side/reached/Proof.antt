@@ -1,0 +1,37 @@
+-- V of 0 reaches 10,000, any other the entry at the row.
+use mathlib.Core.Path.{sym, ap, _∙_}
+use Prim.Native.Nat.{ℕ}
+use native.Mathlib.Omega.{arith}
+use borrow.Author.Needs.{needs}
+use borrow.Author.Tests.{lt-ltb, le-ltb}
+use lib.IntN.{pos}
+use Rattle.rules.specs.Table.{table-106-1, entry}
+use Rattle.rules.specs.Percent.{nearest}
+use Rattle.laws.proofs.Row.{row-at-most}
+use Rattle.laws.proofs.Side.{reached-entry, reached-whole}
+use Rattle.quality.proofs.side.reached.Statement.{statement}
+use Rattle.quality.proofs.side.reached.Tie as tie
+
+row-requires : tie.Need-row-requires
+row-requires c κs = search needs
+
+entry-requires : tie.Need-entry-requires
+entry-requires c κs =
+    let args = c .before .before .args in
+    let s = c .before .before .pre .0 in
+    (s .least, s .few, omega (arith, c .row .ensures, row-at-most (args .n) (pos (args .v)) (pos (args .distance))))
+
+returns : tie.Need-returns
+returns c =
+    let args = c .before .args in
+    sym (ap pos (reached-whole nearest table-106-1 (args .n) (pos (args .v)) (pos (args .distance)) (le-ltb 0 (args .v) (omega arith))))
+
+returns-2 : tie.Need-returns-2
+returns-2 c =
+    let args = c .before .before .before .args in
+    c .entry .ensures
+    ∙ ap (λ (k : ℕ). pos (entry table-106-1 (args .n) k)) (c .before .row .ensures)
+    ∙ sym (ap pos (reached-entry nearest table-106-1 (args .n) (pos (args .v)) (pos (args .distance)) (lt-ltb 0 (args .v) (omega arith))))
+
+pub reached-spec : {M : Type 1} → statement M
+reached-spec = tie.close (tie.spec row-requires entry-requires returns returns-2)

@@ -1,0 +1,93 @@
+// Percent within limits: direct evaluation, of a lent list of readings and of a lot in memory.
+mod row;
+mod side;
+
+use readings::spread;
+use readings::totals;
+use rules::Evaluation;
+use rules::HeldLot;
+use rules::Hundredths;
+use rules::Limit;
+use rules::MOST;
+use rules::Outcome;
+use rules::Percentages;
+use rules::Refusal;
+use rules::Thousandths;
+use rules::Totals;
+use side::lower_side;
+use side::upper_side;
+ghost use mathlib.Core.Path.{_≡_};
+ghost use mathlib.Core.Bool.{false};
+ghost use mathlib.Core.List.{map};
+ghost use Rattle.rules.specs.declared.Thousandths.{Thousandths};
+ghost use Rattle.rules.specs.Lot.{lot-of, lot-in};
+ghost use Rattle.rules.specs.Table.{table-106-1};
+ghost use Rattle.rules.specs.Percent.{nearest, within};
+ghost use Rattle.rules.specs.Refusals.{out-of-range};
+ghost use Rattle.rules.specs.Answers.{evaluation-said};
+ghost use Rattle.rules.specs.Entries.{percentages-of, evaluation-says};
+ghost use Rattle.laws.specs.Bounds.{Bounded};
+ghost use Rattle.laws.specs.InPercent.{InPercent};
+
+// PWL = upper + lower − 10,000
+fn within(upper: Hundredths, lower: Hundredths) -> Hundredths
+    requires { ⌜ InPercent (upper .0) × InPercent (lower .0) ⌝ }
+    ensures { λ r. ⌜ r .0 ≡ within (upper .0) (lower .0) ⌝ }
+{
+    Hundredths(upper.0 + lower.0 - 10000)
+}
+
+fn percentages(a: Totals, upper: Limit, lower: Limit) -> Percentages
+    requires { ⌜ Bounded a × (out-of-range upper ≡ false) × (out-of-range lower ≡ false) ⌝ }
+    ensures { λ r. ⌜ r ≡ percentages-of nearest table-106-1 a upper lower ⌝ }
+{
+    let v = spread(a);
+    let u = upper_side(a, v, upper);
+    let l = lower_side(a, v, lower);
+    Percentages {
+        upper: u,
+        lower: l,
+        pwl: within(u, l),
+    }
+}
+
+// Direct evaluation, of a lent list of readings.
+pub fn evaluate(readings: &[i32], upper: Limit, lower: Limit) -> Evaluation
+    ensures { λ r. ⌜ evaluation-said r ≡ evaluation-says (lot-of upper lower (now (readings .entry))) ⌝ }
+{
+    match refusals::evaluation(readings, upper, lower) {
+        Outcome::Refused(refusal) => Evaluation::Refused(refusal),
+        Outcome::Answers => Evaluation::Answers(percentages(totals(readings), upper, lower)),
+    }
+}
+
+// The places of a lot in memory, as plain numbers.
+fn numbers(readings: [Thousandths; MOST]) -> [i32; MOST]
+    ensures { λ r. ⌜ r ≡ map (λ (x : Thousandths). x .0) readings ⌝ }
+{
+    let mut numbers = [0; MOST];
+    let mut i = 0;
+    while i < MOST {
+        let reading = readings[i];
+        let number = reading.0;
+        numbers[i] = number;
+        i += 1;
+    }
+    numbers
+}
+
+// Direct evaluation, of a lot in memory.
+pub fn evaluate_held(lot: HeldLot) -> Evaluation
+    ensures { λ r. ⌜ evaluation-said r ≡ evaluation-says (lot-in lot) ⌝ }
+{
+    let count = lot.count as usize;
+    if MOST < count {
+        Evaluation::Refused(Refusal::Count)
+    } else {
+        let readings = lot.readings;
+        let upper = lot.upper;
+        let lower = lot.lower;
+        let numbers = numbers(readings);
+        evaluate(&numbers[..count], upper, lower)
+    }
+}

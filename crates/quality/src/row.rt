@@ -1,0 +1,33 @@
+// The row of a distance.
+ghost use mathlib.Core.Path.{_≡_};
+ghost use Prim.Native.Nat.{_≤_};
+ghost use lib.IntN.{pos};
+ghost use Rattle.rules.specs.Table.{last-row};
+ghost use Rattle.rules.specs.Percent.{admits, nearest};
+ghost use Rattle.laws.specs.Bounds.{Spreads, Distant};
+
+// k = 0 or 1600·(n−1)·D² ≥ (2k−1)²·n·V, for a distance of that magnitude and a row from 1 on.
+fn admits(n: u64, v: u64, distance: u64, k: u64) -> bool
+    requires { ⌜ Spreads n v × Distant distance × (1 ≤ k) × (k ≤ last-row) ⌝ }
+    ensures { λ r. ⌜ r ≡ admits n (pos v) (pos distance) k ⌝ }
+{
+    (2 * k - 1) * (2 * k - 1) * n * v <= 1600 * (n - 1) * (distance * distance)
+}
+
+// The row: the largest that is admitted. Whatever is below an admitted row is admitted too, so the range is halved. Inner: a side keeps the bounds.
+pub fn row(n: u64, v: u64, distance: u64) -> u64
+    requires { ⌜ Spreads n v × Distant distance ⌝ }
+    ensures { λ r. ⌜ r ≡ nearest n (pos v) (pos distance) ⌝ }
+{
+    let mut low = 0;
+    let mut high = 53;
+    while low < high {
+        let middle = (low + high + 1) / 2;
+        if admits(n, v, distance, middle) {
+            low = middle;
+        } else {
+            high = middle - 1;
+        }
+    }
+    low
+}

@@ -1,0 +1,101 @@
+// The percentage of a side.
+use crate::row::row;
+use readings::magnitude;
+use rules::Hundredths;
+use rules::Limit;
+use rules::Thousandths;
+use rules::Totals;
+ghost use mathlib.Core.Path.{_≡_};
+ghost use mathlib.Core.Bool.{false};
+ghost use Prim.Native.Nat.{_≤_};
+ghost use lib.IntN.{pos, natAbs, _-ℤ_, _*ℤ_};
+ghost use mir.Syntax.{w64};
+ghost use mir.Val.{SFits};
+ghost use Rattle.rules.specs.Units.{hundred-percent};
+ghost use Rattle.rules.specs.Lot.{most};
+ghost use Rattle.rules.specs.Table.{table-106-1};
+ghost use Rattle.rules.specs.Percent.{spread, upper-distance, lower-distance, nearest, side, upper-side, lower-side};
+ghost use Rattle.rules.specs.Refusals.{out-of-range};
+ghost use Rattle.laws.specs.Bounds.{Bounded, Spreads, Distant};
+ghost use Rattle.laws.specs.Reached.{reached};
+
+// The entry at the row of a distance of that magnitude; 10,000 where all readings are equal.
+fn reached(n: u32, v: u64, distance: u64) -> Hundredths
+    requires { ⌜ Spreads n v × Distant distance ⌝ }
+    ensures { λ r. ⌜ r .0 ≡ pos (reached nearest table-106-1 n (pos v) (pos distance)) ⌝ }
+{
+    if v == 0 {
+        Hundredths(10000)
+    } else {
+        table::entry(n as usize, row(n as u64, v, distance) as usize)
+    }
+}
+
+// The rest to 100 percent.
+fn rest(part: Hundredths) -> Hundredths
+    requires { ⌜ natAbs (part .0) ≤ 10000 ⌝ }
+    ensures { λ r. ⌜ r .0 ≡ hundred-percent -ℤ part .0 ⌝ }
+{
+    Hundredths(10000 - part.0)
+}
+
+// The percentage of a side at a distance D.
+fn side(n: u32, v: u64, d: i64) -> Hundredths
+    requires { ⌜ Spreads n v × Distant (natAbs d) ⌝ }
+    ensures { λ r. ⌜ r .0 ≡ side nearest table-106-1 n (pos v) d ⌝ }
+{
+    let e = reached(n, v, magnitude(d));
+    if 0 <= d { e } else { rest(e) }
+}
+
+fn times(n: u32, z: Thousandths) -> i64
+    requires { ⌜ (n ≤ most) × (natAbs (z .0) ≤ 500000) ⌝ }
+    ensures { λ r. ⌜ r ≡ pos n *ℤ z .0 ⌝ }
+{
+    n as i64 * z.0 as i64
+}
+
+fn difference(x: i64, y: i64) -> i64
+    requires { ⌜ SFits w64 (x -ℤ y) ⌝ }
+    ensures { λ r. ⌜ r ≡ x -ℤ y ⌝ }
+{
+    x - y
+}
+
+// The upper distance.
+fn upper_distance(a: Totals, u: Thousandths) -> i64
+    requires { ⌜ Bounded a × (natAbs (u .0) ≤ 500000) ⌝ }
+    ensures { λ r. ⌜ r ≡ upper-distance a (u .0) ⌝ }
+{
+    difference(times(a.n, u), a.t)
+}
+
+// The lower distance.
+fn lower_distance(a: Totals, l: Thousandths) -> i64
+    requires { ⌜ Bounded a × (natAbs (l .0) ≤ 500000) ⌝ }
+    ensures { λ r. ⌜ r ≡ lower-distance a (l .0) ⌝ }
+{
+    difference(a.t, times(a.n, l))
+}
+
+// The side of an upper limit: 10,000 where it is absent. Inner: an evaluation keeps the bounds.
+pub fn upper_side(a: Totals, v: u64, upper: Limit) -> Hundredths
+    requires { ⌜ Bounded a × (pos v ≡ spread a) × (out-of-range upper ≡ false) ⌝ }
+    ensures { λ r. ⌜ r .0 ≡ upper-side nearest table-106-1 a upper ⌝ }
+{
+    match upper {
+        Limit::Absent => Hundredths(10000),
+        Limit::At(u) => side(a.n, v, upper_distance(a, u)),
+    }
+}
+
+// The side of a lower limit. Inner, as the other.
+pub fn lower_side(a: Totals, v: u64, lower: Limit) -> Hundredths
+    requires { ⌜ Bounded a × (pos v ≡ spread a) × (out-of-range lower ≡ false) ⌝ }
+    ensures { λ r. ⌜ r .0 ≡ lower-side nearest table-106-1 a lower ⌝ }
+{
+    match lower {
+        Limit::Absent => Hundredths(10000),
+        Limit::At(l) => side(a.n, v, lower_distance(a, l)),
+    }
+}

@@ -79,8 +79,8 @@ fn before_midpoint_above(n: u64, v: u64, s: u64) -> bool
     4 * v < (2 * s + 1) * (2 * s + 1) * n * (n - 1)
 }
 
-// s, by a search from zero.
-fn rounded(n: u64, v: u64) -> u64
+// s, by a search from zero. Inner: the entries pass n and V of readings that are not refused.
+pub fn rounded(n: u64, v: u64) -> u64
     requires { ⌜ (2 ≤ n) × (n ≤ most) × (v ≤ 100000000000000) ⌝ }
     ensures { λ r. ⌜ (r ≡ deviation n (pos v)) × (r ≤ 10000000) ⌝ }
 {

@@ -3,7 +3,6 @@ use rules::DeviationAnswer;
 use rules::Mean;
 use rules::MeanAnswer;
 use rules::Outcome;
-use rules::Refusal;
 use rules::Thousandths;
 use rules::Totals;
 ghost use mathlib.Core.Path.{_≡_};

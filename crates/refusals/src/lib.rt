@@ -3,7 +3,6 @@ use rules::Limit;
 use rules::MOST;
 use rules::Outcome;
 use rules::Refusal;
-use rules::Thousandths;
 ghost use mathlib.Core.Path.{_≡_};
 ghost use Rattle.rules.specs.Units.{in-range};
 ghost use Rattle.rules.specs.Said.{checked};

@@ -1,10 +1,10 @@
 .PHONY: run test
 
-# The desk examples, once they are proved.
+# The examples of document 01, worked out by the proved entries.
 run:
 	@mkdir -p target
-	@rt check laws > target/run.log 2>&1 || { cat target/run.log; exit 1; }
-	@python3 tools/desk.py
+	@rt check desk > target/run.log 2>&1 || { cat target/run.log; exit 1; }
+	@target/bin/desk
 
 # The gate.
 test:

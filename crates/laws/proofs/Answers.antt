@@ -84,7 +84,7 @@ row-injective =
     read-back row-said (read RowAnswer.Answers RowAnswer.Refused)
     (elim [ RowAnswer.Answers a ↦ refl | RowAnswer.Refused r ↦ ap RowAnswer.Refused (refusal-back r) ])
 
-outcome-injective : Injective outcome-said
+pub outcome-injective : Injective outcome-said
 outcome-injective =
     read-back outcome-said (read (λ _. Outcome.Answers) Outcome.Refused)
     (elim [ Outcome.Answers ↦ refl | Outcome.Refused r ↦ ap Outcome.Refused (refusal-back r) ])

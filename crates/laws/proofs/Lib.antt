@@ -7,6 +7,7 @@ pub mod Tests
 pub mod Ruled
 pub mod Lowest
 pub mod Answers
+pub mod Determined
 pub mod Spread
 pub mod Bounds
 pub mod Accepted

@@ -11,7 +11,7 @@ use lib.ListN.{length, drop, getD}
 use lib.Signed.{_≤ℤ_, leZ}
 use Rattle.integers.proofs.Difference.{var, nat, eq-diff, _⊖_}
 use Rattle.integers.proofs.Order.{leZ-true}
-use Rattle.integers.proofs.Magnitude.{within, natAbs-parts, natAbs-add, natAbs-sub, natAbs-mul}
+use Rattle.integers.proofs.Magnitude.{within, natAbs-parts, natAbs-add, natAbs-mul}
 use Rattle.integers.proofs.Square.{square, square-nonneg}
 use Rattle.rules.specs.declared.Totals.{Totals}
 use Rattle.rules.specs.declared.Thousandths.{Thousandths}
@@ -19,9 +19,9 @@ use Rattle.rules.specs.declared.Limit.{Limit}
 use Rattle.rules.specs.declared.Limit.the-variants.{At}
 use Rattle.rules.specs.Units.{in-range}
 use Rattle.rules.specs.Lot.{most}
-use Rattle.rules.specs.Percent.{sum, squares, totals, spread, upper-distance, lower-distance}
+use Rattle.rules.specs.Percent.{sum, squares, totals, spread}
 use Rattle.rules.specs.Refusals.{out-of-range, any-out}
-use Rattle.laws.specs.Bounds.{Accepted, Bounded, Spreads, Distant}
+use Rattle.laws.specs.Bounds.{Accepted, Bounded, Spreads}
 use Rattle.laws.proofs.Tests.{neither}
 use Rattle.laws.proofs.Spread.{spread-never-negative}
 
@@ -101,19 +101,7 @@ spread-bound {a} h =
 pub spreads : {a : Totals} {v : ℕ} → Bounded a → pos v ≡ spread a → Spreads (a .n) v
 spreads h e = record { least = h .least; few = h .few; small = omega (arith, ap natAbs e, spread-bound h .spread) }
 
--- ---- distances
+-- ---- limits
 
 pub limit-bound : (limit : Limit) {z : Thousandths} → limit ≡ At z → out-of-range limit ≡ false → natAbs (z .0) ≤ 500000
 limit-bound limit {z} e h = in-range-bound (z .0) (not-false (in-range (z .0)) (sym (ap out-of-range e) ∙ h))
-
-product-bound : {a : Totals} (z : ℤ) → Bounded a → natAbs z ≤ 500000 → natAbs (pos (a .n) *ℤ z) ≤ most * 500000
-product-bound {a} z h near = omega (arith, natAbs-mul (pos (a .n)) z, mul-le-mul (h .few) near)
-
-module _ {a : Totals} (z : ℤ) (h : Bounded a) (near : natAbs z ≤ 500000) where
-  pub upper-distant : Distant (natAbs (upper-distance a z))
-  unfolding upper-distance
-  upper-distant = record { small = omega (arith, natAbs-sub (pos (a .n) *ℤ z) (a .t), product-bound z h near, h .few, h .sum) }
-
-  pub lower-distant : Distant (natAbs (lower-distance a z))
-  unfolding lower-distance
-  lower-distant = record { small = omega (arith, natAbs-sub (a .t) (pos (a .n) *ℤ z), product-bound z h near, h .few, h .sum) }

@@ -7,14 +7,12 @@ use rules::Thousandths;
 use rules::Totals;
 ghost use mathlib.Core.Path.{_≡_};
 ghost use mathlib.Core.Bool.{false};
-ghost use Prim.Native.Nat.{_≤_};
+ghost use Prim.Native.Nat.{_*_, _≤_};
 ghost use lib.IntN.{pos, natAbs, _-ℤ_, _*ℤ_};
-ghost use mir.Syntax.{w64};
-ghost use mir.Val.{SFits};
 ghost use Rattle.rules.specs.Units.{hundred-percent};
 ghost use Rattle.rules.specs.Lot.{most};
 ghost use Rattle.rules.specs.Table.{table-106-1};
-ghost use Rattle.rules.specs.Percent.{spread, upper-distance, lower-distance, nearest, side, upper-side, lower-side};
+ghost use Rattle.rules.specs.Percent.{spread, nearest, side, upper-side, lower-side};
 ghost use Rattle.rules.specs.Refusals.{out-of-range};
 ghost use Rattle.laws.specs.Bounds.{Bounded, Spreads, Distant};
 ghost use Rattle.laws.specs.Reached.{reached};
@@ -48,34 +46,26 @@ fn side(n: u32, v: u64, d: i64) -> Hundredths
     if 0 <= d { e } else { rest(e) }
 }
 
-fn times(n: u32, z: Thousandths) -> i64
-    requires { ⌜ (n ≤ most) × (natAbs (z .0) ≤ 500000) ⌝ }
-    ensures { λ r. ⌜ r ≡ pos n *ℤ z .0 ⌝ }
-{
-    n as i64 * z.0 as i64
-}
-
 fn difference(x: i64, y: i64) -> i64
-    requires { ⌜ SFits w64 (x -ℤ y) ⌝ }
-    ensures { λ r. ⌜ r ≡ x -ℤ y ⌝ }
+    requires { ⌜ (natAbs x ≤ most * 500000) × (natAbs y ≤ most * 500000) ⌝ }
+    ensures { λ r. ⌜ (r ≡ x -ℤ y) × Distant (natAbs r) ⌝ }
 {
     x - y
 }
 
-// The upper distance.
-fn upper_distance(a: Totals, u: Thousandths) -> i64
-    requires { ⌜ Bounded a × (natAbs (u .0) ≤ 500000) ⌝ }
-    ensures { λ r. ⌜ r ≡ upper-distance a (u .0) ⌝ }
+// The side at the distance x − y.
+fn side_between(n: u32, v: u64, x: i64, y: i64) -> Hundredths
+    requires { ⌜ Spreads n v × (natAbs x ≤ most * 500000) × (natAbs y ≤ most * 500000) ⌝ }
+    ensures { λ r. ⌜ r .0 ≡ side nearest table-106-1 n (pos v) (x -ℤ y) ⌝ }
 {
-    difference(times(a.n, u), a.t)
+    side(n, v, difference(x, y))
 }
 
-// The lower distance.
-fn lower_distance(a: Totals, l: Thousandths) -> i64
-    requires { ⌜ Bounded a × (natAbs (l .0) ≤ 500000) ⌝ }
-    ensures { λ r. ⌜ r ≡ lower-distance a (l .0) ⌝ }
+fn times(n: u32, z: Thousandths) -> i64
+    requires { ⌜ (n ≤ most) × (natAbs (z .0) ≤ 500000) ⌝ }
+    ensures { λ r. ⌜ (r ≡ pos n *ℤ z .0) × (natAbs r ≤ most * 500000) ⌝ }
 {
-    difference(a.t, times(a.n, l))
+    n as i64 * z.0 as i64
 }
 
 // The side of an upper limit: 10,000 where it is absent. Inner: an evaluation keeps the bounds.
@@ -85,7 +75,7 @@ pub fn upper_side(a: Totals, v: u64, upper: Limit) -> Hundredths
 {
     match upper {
         Limit::Absent => Hundredths(10000),
-        Limit::At(u) => side(a.n, v, upper_distance(a, u)),
+        Limit::At(u) => side_between(a.n, v, times(a.n, u), a.t),
     }
 }
 
@@ -96,6 +86,6 @@ pub fn lower_side(a: Totals, v: u64, lower: Limit) -> Hundredths
 {
     match lower {
         Limit::Absent => Hundredths(10000),
-        Limit::At(l) => side(a.n, v, lower_distance(a, l)),
+        Limit::At(l) => side_between(a.n, v, a.t, times(a.n, l)),
     }
 }

@@ -1,14 +1,17 @@
 -- An absent limit has 10,000; a present one is in range, so its distance is small enough for its side.
-use mathlib.Core.Path.{ap₂, _∙_, subst⁻¹}
+use mathlib.Core.Path.{ap, ap₂, _∙_}
+use Prim.Native.Nat.{_*_, _≤_}
+use native.Mathlib.Omega.{arith}
 use borrow.Author.Needs.{needs}
-use lib.IntN.{ℤ, natAbs}
+use lib.IntN.{ℤ, natAbs, _-ℤ_}
 use mir.Syntax.{w64}
 use mir.Val.{SFits}
 use mir.Facts.{toZ-ofZ}
+use Rattle.integers.proofs.Magnitude.{fits-of}
+use Rattle.rules.specs.Lot.{most}
 use Rattle.rules.specs.Table.{table-106-1}
 use Rattle.rules.specs.Percent.{lower-distance, nearest, side, lower-side}
-use Rattle.laws.specs.Bounds.{Distant}
-use Rattle.laws.proofs.Bounds.{spreads, limit-bound, lower-distant}
+use Rattle.laws.proofs.Bounds.{spreads, limit-bound}
 use Rattle.quality.proofs.side.lower_side.Statement.{statement}
 use Rattle.quality.proofs.side.lower_side.Tie as tie
 
@@ -18,32 +21,39 @@ enum-told c = search needs
 enum-known-lower : tie.Need-enum-known-lower
 enum-known-lower c = search needs
 
-lower-distance-requires : tie.Need-lower-distance-requires
-lower-distance-requires c κs =
+times-requires : tie.Need-times-requires
+times-requires c κs =
     let start = c .before .before .before in
-    (start .pre .0, limit-bound (start .args .lower) (c .before .lower .given .1) (start .pre .2))
+    (start .pre .0 .few, limit-bound (start .args .lower) (c .before .lower .given .1) (start .pre .2))
 
-side-requires : tie.Need-side-requires
-side-requires c κs =
-    let start = c .before .before .before .before in
-    let f : SFits w64 (c .lower-distance .result) = record { sfits = c .lower-distance .ok } in
-    let near = limit-bound (start .args .lower) (c .before .before .lower .given .1) (start .pre .2) in
-    simp toZ-ofZ
-    (spreads (start .pre .0) (start .pre .1), subst⁻¹ (λ (d : ℤ). Distant (natAbs d)) (c .lower-distance .ensures) (lower-distant _ (start .pre .0) near))
+-- T and its bound
+total : (c : tie.Start) → natAbs (c .args .a .t) ≤ most * 500000
+total c = omega (arith, c .pre .0 .few, c .pre .0 .sum)
+
+side-between-requires : tie.Need-side-between-requires
+side-between-requires c κs =
+    let start = c .before .before .before .before .before in
+    let p : SFits w64 (c .before .times .result) = record { sfits = c .before .times .ok } in
+    let h : natAbs (start .args .a .t) ≤ most * 500000 = total start in
+    let t : SFits w64 (start .args .a .t) = fits-of w64 (omega arith) in
+    simp toZ-ofZ (spreads (start .pre .0) (start .pre .1), h, c .before .times .ensures .1)
 
 returns : tie.Need-returns
 unfolding lower-side
 returns c = simp (c .enum-told .given .1)
 
 returns-2 : tie.Need-returns-2
-unfolding lower-side
+unfolding lower-distance lower-side
 returns-2 c =
-    let start = c .before .before .before .before .before in
-    let f : SFits w64 (c .before .lower-distance .result) = record { sfits = c .before .lower-distance .ok } in
-    rw (c .before .before .before .lower .given .1)
-    ((simp toZ-ofZ at (c .side .ensures))
-    ∙ ap₂ (side nearest table-106-1 (start .args .a .n)) (start .pre .1) (c .before .lower-distance .ensures))
+    let start = c .before .before .before .before .before .before in
+    let p : SFits w64 (c .before .before .times .result) = record { sfits = c .before .before .times .ok } in
+    let h : natAbs (start .args .a .t) ≤ most * 500000 = total start in
+    let t : SFits w64 (start .args .a .t) = fits-of w64 (omega arith) in
+    rw (c .before .before .before .before .lower .given .1)
+    ((simp toZ-ofZ at (c .side-between .ensures))
+    ∙ ap₂ (side nearest table-106-1 (start .args .a .n)) (start .pre .1) (ap (λ (z : ℤ). start .args .a .t -ℤ z) (c .before .before .times .ensures .0)))
 
 pub lower-side-spec : {M : Type 1} → statement M
 lower-side-spec =
-    tie.close (tie.spec enum-told enum-known-lower lower-distance-requires side-requires returns returns-2)
+    tie.close
+    (tie.spec enum-told enum-known-lower times-requires side-between-requires returns returns-2)

@@ -1,14 +1,17 @@
 -- An absent limit has 10,000; a present one is in range, so its distance is small enough for its side.
-use mathlib.Core.Path.{ap₂, _∙_, subst⁻¹}
+use mathlib.Core.Path.{ap, ap₂, _∙_}
+use Prim.Native.Nat.{_*_, _≤_}
+use native.Mathlib.Omega.{arith}
 use borrow.Author.Needs.{needs}
-use lib.IntN.{ℤ, natAbs}
+use lib.IntN.{ℤ, natAbs, _-ℤ_}
 use mir.Syntax.{w64}
 use mir.Val.{SFits}
 use mir.Facts.{toZ-ofZ}
+use Rattle.integers.proofs.Magnitude.{fits-of}
+use Rattle.rules.specs.Lot.{most}
 use Rattle.rules.specs.Table.{table-106-1}
 use Rattle.rules.specs.Percent.{upper-distance, nearest, side, upper-side}
-use Rattle.laws.specs.Bounds.{Distant}
-use Rattle.laws.proofs.Bounds.{spreads, limit-bound, upper-distant}
+use Rattle.laws.proofs.Bounds.{spreads, limit-bound}
 use Rattle.quality.proofs.side.upper_side.Statement.{statement}
 use Rattle.quality.proofs.side.upper_side.Tie as tie
 
@@ -18,32 +21,39 @@ enum-told c = search needs
 enum-known-upper : tie.Need-enum-known-upper
 enum-known-upper c = search needs
 
-upper-distance-requires : tie.Need-upper-distance-requires
-upper-distance-requires c κs =
+times-requires : tie.Need-times-requires
+times-requires c κs =
     let start = c .before .before .before in
-    (start .pre .0, limit-bound (start .args .upper) (c .before .upper .given .1) (start .pre .2))
+    (start .pre .0 .few, limit-bound (start .args .upper) (c .before .upper .given .1) (start .pre .2))
 
-side-requires : tie.Need-side-requires
-side-requires c κs =
-    let start = c .before .before .before .before in
-    let f : SFits w64 (c .upper-distance .result) = record { sfits = c .upper-distance .ok } in
-    let near = limit-bound (start .args .upper) (c .before .before .upper .given .1) (start .pre .2) in
-    simp toZ-ofZ
-    (spreads (start .pre .0) (start .pre .1), subst⁻¹ (λ (d : ℤ). Distant (natAbs d)) (c .upper-distance .ensures) (upper-distant _ (start .pre .0) near))
+-- T and its bound
+total : (c : tie.Start) → natAbs (c .args .a .t) ≤ most * 500000
+total c = omega (arith, c .pre .0 .few, c .pre .0 .sum)
+
+side-between-requires : tie.Need-side-between-requires
+side-between-requires c κs =
+    let start = c .before .before .before .before .before in
+    let p : SFits w64 (c .before .times .result) = record { sfits = c .before .times .ok } in
+    let h : natAbs (start .args .a .t) ≤ most * 500000 = total start in
+    let t : SFits w64 (start .args .a .t) = fits-of w64 (omega arith) in
+    simp toZ-ofZ (spreads (start .pre .0) (start .pre .1), c .before .times .ensures .1, h)
 
 returns : tie.Need-returns
 unfolding upper-side
 returns c = simp (c .enum-told .given .1)
 
 returns-2 : tie.Need-returns-2
-unfolding upper-side
+unfolding upper-distance upper-side
 returns-2 c =
-    let start = c .before .before .before .before .before in
-    let f : SFits w64 (c .before .upper-distance .result) = record { sfits = c .before .upper-distance .ok } in
-    rw (c .before .before .before .upper .given .1)
-    ((simp toZ-ofZ at (c .side .ensures))
-    ∙ ap₂ (side nearest table-106-1 (start .args .a .n)) (start .pre .1) (c .before .upper-distance .ensures))
+    let start = c .before .before .before .before .before .before in
+    let p : SFits w64 (c .before .before .times .result) = record { sfits = c .before .before .times .ok } in
+    let h : natAbs (start .args .a .t) ≤ most * 500000 = total start in
+    let t : SFits w64 (start .args .a .t) = fits-of w64 (omega arith) in
+    rw (c .before .before .before .before .upper .given .1)
+    ((simp toZ-ofZ at (c .side-between .ensures))
+    ∙ ap₂ (side nearest table-106-1 (start .args .a .n)) (start .pre .1) (ap (λ (z : ℤ). z -ℤ start .args .a .t) (c .before .before .times .ensures .0)))
 
 pub upper-side-spec : {M : Type 1} → statement M
 upper-side-spec =
-    tie.close (tie.spec enum-told enum-known-upper upper-distance-requires side-requires returns returns-2)
+    tie.close
+    (tie.spec enum-told enum-known-upper times-requires side-between-requires returns returns-2)

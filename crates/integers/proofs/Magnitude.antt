@@ -7,7 +7,7 @@ use lib.IntN.{ℤ, pos, negsuc, negℤ, natAbs, _+ℤ_, _-ℤ_, _*ℤ_}
 use lib.Signed.{_≤ℤ_, yes-nonNeg, pos-natAbs}
 use mir.Syntax.{Width}
 use mir.Val.{hbits, SFits}
-use Rattle.integers.proofs.Difference.{Diff, up, down, var, nat, diff-le, le-diff, ⊝_, _⊕_, _⊖_}
+use Rattle.integers.proofs.Difference.{Diff, up, down, var, nat, eq-diff, diff-le, le-diff, ⊝_, _⊕_, _⊖_}
 
 -- A magnitude by the parts of its integer, one of which is zero.
 pub natAbs-parts : (z : ℤ) → natAbs z ≡ up z + down z
@@ -49,6 +49,12 @@ natAbs-mul (pos a) (pos b) = refl
 natAbs-mul (pos a) (negsuc b) = natAbs-neg (pos (a * suc b))
 natAbs-mul (negsuc a) (pos b) = natAbs-neg (pos (suc a * b))
 natAbs-mul (negsuc a) (negsuc b) = refl
+
+-- Of what is left of w when a number that is not negative is taken away: it is not above w, if it is not negative.
+pub natAbs-left : (v w q : ℤ) → pos 0 ≤ℤ v → pos 0 ≤ℤ q → v ≡ w -ℤ q → natAbs v ≤ natAbs w
+natAbs-left (pos a) w (pos b) h k e = omega (arith, natAbs-parts w, eq-diff (nat a) (var w ⊖ nat b) e)
+natAbs-left (pos a) w (negsuc b) h k e = absurd (k .le)
+natAbs-left (negsuc a) w q h k e = absurd (h .le)
 
 -- An integer that is not negative is its magnitude.
 pub natAbs-pos : {z : ℤ} → pos 0 ≤ℤ z → pos (natAbs z) ≡ z

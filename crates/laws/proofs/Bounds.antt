@@ -6,12 +6,11 @@ use Prim.Native.Nat.{ℕ, zero, suc, _*_, _≤_, _<_, zero-le}
 use native.Mathlib.Nat.{le-trans, le-of-suc-le-suc, mul-le-mul}
 use native.Mathlib.Omega.{arith}
 use borrow.Author.Tests.{not-false}
-use lib.IntN.{ℤ, pos, negsuc, negℤ, natAbs, _-ℤ_, _*ℤ_}
+use lib.IntN.{ℤ, pos, negℤ, natAbs, _*ℤ_}
 use lib.ListN.{length, drop, getD}
-use lib.Signed.{_≤ℤ_, leZ}
-use Rattle.integers.proofs.Difference.{var, nat, eq-diff, _⊖_}
+use lib.Signed.{leZ}
 use Rattle.integers.proofs.Order.{leZ-true}
-use Rattle.integers.proofs.Magnitude.{within, natAbs-parts, natAbs-add, natAbs-mul}
+use Rattle.integers.proofs.Magnitude.{within, natAbs-add, natAbs-mul, natAbs-left}
 use Rattle.integers.proofs.Square.{square, square-nonneg}
 use Rattle.rules.specs.declared.Totals.{Totals}
 use Rattle.rules.specs.declared.Thousandths.{Thousandths}
@@ -74,12 +73,6 @@ totals-bounded {xs} h e =
 
 -- ---- V
 
--- What is left of w, without more than w, is not above it.
-left-of : (v w q : ℤ) → pos 0 ≤ℤ v → pos 0 ≤ℤ q → v ≡ w -ℤ q → natAbs v ≤ natAbs w
-left-of (pos a) w (pos b) h k e = omega (arith, natAbs-parts w, eq-diff (nat a) (var w ⊖ nat b) e)
-left-of (pos a) w (negsuc b) h k e = absurd (k .le)
-left-of (negsuc a) w q h k e = absurd (h .le)
-
 -- The products that V is the difference of, and V itself, which is not above the first.
 pub record Spread (a : Totals) : Type 0 where
   pub product : natAbs (pos (a .n) *ℤ a .z) ≤ most * (most * 250000000000)
@@ -95,7 +88,7 @@ spread-bound {a} h =
     record {
       product = p;
       square = omega (arith, natAbs-mul (a .t) (a .t), mul-le-mul t t);
-      spread = le-trans (left-of (spread a) (pos (a .n) *ℤ a .z) (a .t *ℤ a .t) (h .spread-not-negative) (square-nonneg (a .t)) refl) p;
+      spread = le-trans (natAbs-left (spread a) (pos (a .n) *ℤ a .z) (a .t *ℤ a .t) (h .spread-not-negative) (square-nonneg (a .t)) refl) p;
     }
 
 pub spreads : {a : Totals} {v : ℕ} → Bounded a → pos v ≡ spread a → Spreads (a .n) v

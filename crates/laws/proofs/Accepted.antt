@@ -16,7 +16,7 @@ use Rattle.rules.specs.Refusals.{allowed, count-case, out-of-range, any-out, ra
 use Rattle.rules.specs.Meets.{readings-meet, lot-meets, evaluation-meets}
 use Rattle.rules.specs.Answers.{outcome-said}
 use Rattle.laws.specs.Bounds.{Accepted}
-use Rattle.laws.proofs.Ruled.{none-met, sound}
+use Rattle.laws.proofs.Ruled.{none-met, nothing-refused}
 use Rattle.laws.proofs.Tests.{neither}
 
 counted : (n : ℕ) → count-case n .applies ≡ false → (2 ≤ n) × (n ≤ most)
@@ -41,12 +41,12 @@ accepted upper lower xs count range =
 pub readings-accepted : (xs : List ℤ) {o : Outcome} → outcome-said o ≡ checked (readings-meet xs) → o ≡ Outcome.Answers → Accepted xs
 unfolding readings-meet
 readings-accepted xs e h =
-    let m = none-met (count-case (length xs)) (range-case Absent Absent xs ∷ []) (sound (readings-meet xs) e h) in
+    let m = none-met (count-case (length xs)) (range-case Absent Absent xs ∷ []) (nothing-refused (readings-meet xs) e h) in
     accepted Absent Absent xs (m .0) (none-met (range-case Absent Absent xs) [] (m .1) .0) .readings
 
 pub lot-accepted : (upper lower : Limit) (xs : List ℤ) {o : Outcome} → outcome-said o ≡ checked (evaluation-meets (lot-of upper lower xs)) → o ≡ Outcome.Answers → LotAccepted upper lower xs
 unfolding evaluation-meets
 lot-accepted upper lower xs e h =
     let lot : Lot = lot-of upper lower xs in
-    let m = none-met (count-case (length xs)) (lot-meets lot) (sound (evaluation-meets lot) e h) in
+    let m = none-met (count-case (length xs)) (lot-meets lot) (nothing-refused (evaluation-meets lot) e h) in
     accepted upper lower xs (m .0) (none-met (range-case upper lower xs) _ (m .1) .0)

@@ -20,7 +20,7 @@ use Rattle.rules.specs.Units.{in-range}
 use Rattle.rules.specs.Lot.{most}
 use Rattle.rules.specs.Percent.{sum, squares, totals, spread}
 use Rattle.rules.specs.Refusals.{out-of-range, any-out}
-use Rattle.laws.specs.Bounds.{Accepted, Bounded, Spreads}
+use Rattle.laws.specs.Bounds.{Accepted, Bounded, SpreadInBounds}
 use Rattle.laws.proofs.Tests.{neither}
 use Rattle.laws.proofs.Spread.{spread-never-negative}
 
@@ -71,19 +71,22 @@ totals-bounded {xs} h e =
       spread-not-negative = spread-never-negative xs;
     })
 
+pub total-bound : {a : Totals} → Bounded a → natAbs (a .t) ≤ most * 500000
+total-bound h = omega (arith, h .few, h .sum)
+
 -- ---- V
 
 -- The products that V is the difference of, and V itself, which is not above the first.
-pub record Spread (a : Totals) : Type 0 where
+pub record SpreadParts (a : Totals) : Type 0 where
   pub product : natAbs (pos (a .n) *ℤ a .z) ≤ most * (most * 250000000000)
   pub square : natAbs (a .t *ℤ a .t) ≤ most * 500000 * (most * 500000)
   pub spread : natAbs (spread a) ≤ most * (most * 250000000000)
 
-pub spread-bound : {a : Totals} → Bounded a → Spread a
+pub spread-parts : {a : Totals} → Bounded a → SpreadParts a
 unfolding spread square
-spread-bound {a} h =
+spread-parts {a} h =
     let z : natAbs (a .z) ≤ most * 250000000000 = omega (arith, h .few, h .squares) in
-    let t : natAbs (a .t) ≤ most * 500000 = omega (arith, h .few, h .sum) in
+    let t : natAbs (a .t) ≤ most * 500000 = total-bound h in
     let p : natAbs (pos (a .n) *ℤ a .z) ≤ most * (most * 250000000000) = omega (arith, natAbs-mul (pos (a .n)) (a .z), mul-le-mul (h .few) z) in
     record {
       product = p;
@@ -91,8 +94,8 @@ spread-bound {a} h =
       spread = le-trans (natAbs-left (spread a) (pos (a .n) *ℤ a .z) (a .t *ℤ a .t) (h .spread-not-negative) (square-nonneg (a .t)) refl) p;
     }
 
-pub spreads : {a : Totals} {v : ℕ} → Bounded a → pos v ≡ spread a → Spreads (a .n) v
-spreads h e = record { least = h .least; few = h .few; small = omega (arith, ap natAbs e, spread-bound h .spread) }
+pub spread-in-bounds : {a : Totals} {v : ℕ} → Bounded a → pos v ≡ spread a → SpreadInBounds (a .n) v
+spread-in-bounds h e = record { least = h .least; few = h .few; small = omega (arith, ap natAbs e, spread-parts h .spread) }
 
 -- ---- limits
 

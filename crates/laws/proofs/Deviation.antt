@@ -10,6 +10,7 @@ use lib.Dec.{T, leb→le, le→leb, ltb→lt, eqb·suc-zero}
 use lib.Ieee.Fits.{and-i, and-l, and-r}
 use lib.IntN.{pos}
 use Rattle.rules.specs.Deviation.{before-midpoint-above, from-midpoint-below, is-deviation, deviation}
+use Rattle.laws.specs.Bounds.{SpreadInBounds}
 use Rattle.laws.proofs.Search.{first-passes, none-before}
 
 -- n·(n−1) times the square of an odd number that is not larger is not larger.
@@ -38,16 +39,16 @@ past n v s e =
     let same : 2 * suc s - 1 ≤ 2 * s + 1 = omega arith in
     rw (eqb·suc-zero s) (le→leb _ _ (le-trans (grows n same) (ltb-false _ _ e)))
 
--- No number from its midpoint below is large, for a V up to 10¹⁴.
-pub small : (n v s : ℕ) → 2 ≤ n → v ≤ 100000000000000 → T (from-midpoint-below n (pos v) s) → s ≤ 10000000
-small n v zero low h t = zero-le
-small n v (suc s) low h t =
+-- No number from its midpoint below is large.
+pub small : (n v s : ℕ) → SpreadInBounds n v → T (from-midpoint-below n (pos v) s) → s ≤ 10000000
+small n v zero h t = zero-le
+small n v (suc s) h t =
     elim (decLe (suc s) 10000000) [
       | yes k ↦ k
       | no k ↦
           let odd : 20000001 ≤ 2 * suc s - 1 = omega arith in
           let one : 1 ≤ n - 1 = omega arith in
-          let least : 20000001 * 20000001 * 2 * 1 ≤ 20000001 * 20000001 * n * (n - 1) = mul-le-mul (mul-le-mul-left (20000001 * 20000001) low) one in
+          let least : 20000001 * 20000001 * 2 * 1 ≤ 20000001 * 20000001 * n * (n - 1) = mul-le-mul (mul-le-mul-left (20000001 * 20000001) (h .least)) one in
           let here : (2 * suc s - 1) * (2 * suc s - 1) * n * (n - 1) ≤ 4 * v = leb→le _ _ (rw (eqb·suc-zero s) at t) in
           absurd (omega (arith, grows n odd))
     ]

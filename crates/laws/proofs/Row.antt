@@ -1,17 +1,17 @@
 -- The row rule read back: the midpoints of the row enclose the index, and the row never falls as the distance grows.
 use mathlib.Core.Path.{_≡_, refl, sym, ap, _∙_, subst}
-use mathlib.Core.Bool.{true, false, _||_}
+use mathlib.Core.Bool.{true, false}
 use mathlib.Core.Logic.{_⊎_, inl, inr, ⊎-elim, _↔_}
 use Prim.Native.Nat.{ℕ, zero, suc, _+_, _-_, _*_, _≤_, _<_}
 use native.Mathlib.Nat.{le-refl, mul-le-mul}
 use native.Mathlib.Omega.{arith}
-use lib.Dec.{eqb, eqb·suc-zero}
+use lib.Dec.{eqb·suc-zero}
 use lib.IntN.{ℤ, pos, negsuc, natAbs, _*ℤ_}
 use lib.Signed.{_≤ℤ_, _<ℤ_, leZ, ≤ℤ-refl}
 use Rattle.integers.proofs.Order.{≤ℤ-trans, pos-mono, *ℤ-mono-l, le-leZ, lt-leZ, leZ-true, leZ-false}
 use Rattle.integers.proofs.Square.{square, square-nat, square-mono}
 use Rattle.rules.specs.Table.{last-row}
-use Rattle.rules.specs.Percent.{index-squared, midpoint-squared, admits, largest, nearest}
+use Rattle.rules.specs.Percent.{index-squared, midpoint-squared, admits, nearest}
 use Rattle.laws.proofs.Largest.{largest-at-most, largest-passes, none-above, largest-is, largest-grows}
 
 -- Midpoints grow with the row, for V of 0 or more, and the index with the distance.
@@ -25,6 +25,11 @@ midpoints-grow n (negsuc a) h j k low = absurd (h .le)
 index-grows : (n : ℕ) (d e : ℤ) → natAbs d ≤ natAbs e → index-squared n d ≤ℤ index-squared n e
 unfolding index-squared square
 index-grows n d e h = *ℤ-mono-l (1600 * (n - 1)) (square-mono d e h)
+
+-- The index depends on the magnitude of the distance alone.
+pub index-by-magnitude : (n : ℕ) (d : ℤ) → index-squared n d ≡ pos (1600 * (n - 1) * (natAbs d * natAbs d))
+unfolding index-squared square
+index-by-magnitude n d = ap (λ (x : ℤ). pos (1600 * (n - 1)) *ℤ x) (square-nat d)
 
 -- Row 0 is always admitted, and any other by the midpoint below it.
 pub first-admitted : (n : ℕ) (v d : ℤ) → admits n v d 0 ≡ true
@@ -102,9 +107,3 @@ pub row-never-falls : (n : ℕ) (v d e : ℤ) → natAbs d ≤ natAbs e → near
 unfolding nearest
 row-never-falls n v d e h =
     largest-grows (admits n v d) (admits n v e) (λ k there. stays n v d e k k (le-refl k) (≤ℤ-refl _) (index-grows n d e h) there) last-row
-
--- It depends on the magnitude of the distance alone.
-pub row-by-magnitude : (n : ℕ) (v d : ℤ) → nearest n v (pos (natAbs d)) ≡ nearest n v d
-unfolding nearest admits index-squared square
-row-by-magnitude n v d =
-    ap (λ (x : ℤ). largest (λ (k : ℕ). eqb k 0 || leZ (midpoint-squared n v k) (pos (1600 * (n - 1)) *ℤ x)) last-row) (sym (square-nat d))

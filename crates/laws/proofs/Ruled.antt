@@ -49,11 +49,11 @@ none-met c cs = by (c .applies)
 -- ---- an entry that asks for the outcome first, and has values where none is refused
 
 module _ (cs : List Case) {o : Outcome} (e : outcome-said o ≡ checked cs) where
-  pub sound : o ≡ Outcome.Answers → checked cs ≡ answers tt
-  sound h = sym e ∙ ap outcome-said h
+  pub nothing-refused : o ≡ Outcome.Answers → checked cs ≡ answers tt
+  nothing-refused h = sym e ∙ ap outcome-said h
 
   pub outcome-answers : {A : Type 0} (a : A) → o ≡ Outcome.Answers → ruled cs a ≡ answers a
-  outcome-answers a h = ruled-given cs a ∙ ap (given a) (sound h)
+  outcome-answers a h = ruled-given cs a ∙ ap (given a) (nothing-refused h)
 
   pub outcome-refused : {A : Type 0} (a : A) {r : Refusal} → o ≡ Outcome.Refused r → ruled cs a ≡ told r
   outcome-refused a h = ruled-given cs a ∙ ap (given a) (sym e ∙ ap outcome-said h)

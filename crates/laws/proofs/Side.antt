@@ -1,5 +1,5 @@
 -- A side's percentage lies in 0 to 10,000, by any rule for rows and any column.
-use mathlib.Core.Path.{_≡_, refl, ap}
+use mathlib.Core.Path.{_≡_, refl}
 use mathlib.Core.Bool.{Bool, true, false, cond}
 use lib.IntN.{ℤ, pos, natAbs, _-ℤ_}
 use lib.Signed.{leZ, ltZ}
@@ -14,11 +14,10 @@ use Rattle.rules.specs.declared.Limit.the-variants.{Absent, At}
 use Rattle.rules.specs.declared.Totals.{Totals}
 use Rattle.rules.specs.Units.{hundred-percent}
 use Rattle.rules.specs.Table.{Table, entry, last-row}
-use Rattle.rules.specs.Percent.{Rule, nearest, spread, upper-distance, lower-distance, side, upper-side, lower-side}
+use Rattle.rules.specs.Percent.{Rule, spread, upper-distance, lower-distance, side, upper-side, lower-side}
 use Rattle.laws.specs.Column.{Column}
 use Rattle.laws.specs.InPercent.{InPercent}
 use Rattle.laws.specs.Reached.{reached}
-use Rattle.laws.proofs.Row.{row-by-magnitude}
 use Rattle.laws.proofs.Table.{entry-at-most}
 
 -- A number up to 10,000 is a percentage, and so is the rest to 10,000.
@@ -68,11 +67,6 @@ module _ (rule : Rule) (table : Table) (n : ℕ) (v d : ℤ) where
       by : (b : Bool) → cond b (hundred-percent -ℤ pos (entry table n (rule n v d))) (pos 0) ≡ hundred-percent -ℤ pos (cond b (entry table n (rule n v d)) 10000)
       by true = refl
       by false = refl
-
--- By the nearest row, it does not ask which way the distance points.
-pub reached-by-magnitude : (table : Table) (n : ℕ) (v d : ℤ) → reached nearest table n v (pos (natAbs d)) ≡ reached nearest table n v d
-unfolding reached
-reached-by-magnitude table n v d = ap (λ (k : ℕ). cond (ltZ (pos 0) v) (entry table n k) 10000) (row-by-magnitude n v d)
 
 module _ (rule : Rule) (table : Table) (rows : (n : ℕ) (v d : ℤ) → rule n v d ≤ last-row) where
   pub side-in-percent : (n : ℕ) (v d : ℤ) → Column (table n) → InPercent (side rule table n v d)

@@ -25,11 +25,11 @@ pub record Bounded (a : Totals) : Type 0 where
   pub spread-not-negative : pos 0 ≤ℤ spread a
 
 -- n and V as a lookup has them,
-pub record Spreads (n v : ℕ) : Type 0 where
+pub record SpreadInBounds (n v : ℕ) : Type 0 where
   pub least : 2 ≤ n
   pub few : n ≤ most
   pub small : v ≤ most * (most * 250000000000)
 
--- and the magnitude of a distance.
-pub record Distant (d : ℕ) : Type 0 where
-  pub small : d ≤ 2 * (most * 500000)
+-- and a distance.
+pub record DistanceInBounds (d : ℤ) : Type 0 where
+  pub small : natAbs d ≤ 2 * (most * 500000)

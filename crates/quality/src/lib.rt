@@ -18,9 +18,7 @@ use side::lower_side;
 use side::upper_side;
 ghost use mathlib.Core.Path.{_≡_};
 ghost use mathlib.Core.Bool.{false};
-ghost use mathlib.Core.List.{map};
-ghost use Rattle.rules.specs.declared.Thousandths.{Thousandths};
-ghost use Rattle.rules.specs.Lot.{lot-of, lot-in};
+ghost use Rattle.rules.specs.Lot.{plain, lot-of, lot-in};
 ghost use Rattle.rules.specs.Table.{table-106-1};
 ghost use Rattle.rules.specs.Percent.{nearest, within};
 ghost use Rattle.rules.specs.Refusals.{out-of-range};
@@ -63,7 +61,7 @@ pub fn evaluate(readings: &[i32], upper: Limit, lower: Limit) -> Evaluation
 
 // The places of a lot in memory, as plain numbers.
 fn numbers(readings: [Thousandths; MOST]) -> [i32; MOST]
-    ensures { λ r. ⌜ r ≡ map (λ (x : Thousandths). x .0) readings ⌝ }
+    ensures { λ r. ⌜ r ≡ plain readings ⌝ }
 {
     let mut numbers = [0; MOST];
     let mut i = 0;

@@ -1,6 +1,5 @@
 // The percentage of a side.
 use crate::row::row;
-use readings::magnitude;
 use rules::Hundredths;
 use rules::Limit;
 use rules::Thousandths;
@@ -14,18 +13,18 @@ ghost use Rattle.rules.specs.Lot.{most};
 ghost use Rattle.rules.specs.Table.{table-106-1};
 ghost use Rattle.rules.specs.Percent.{spread, nearest, side, upper-side, lower-side};
 ghost use Rattle.rules.specs.Refusals.{out-of-range};
-ghost use Rattle.laws.specs.Bounds.{Bounded, Spreads, Distant};
+ghost use Rattle.laws.specs.Bounds.{Bounded, SpreadInBounds, DistanceInBounds};
 ghost use Rattle.laws.specs.Reached.{reached};
 
-// The entry at the row of a distance of that magnitude; 10,000 where all readings are equal.
-fn reached(n: u32, v: u64, distance: u64) -> Hundredths
-    requires { ⌜ Spreads n v × Distant distance ⌝ }
-    ensures { λ r. ⌜ r .0 ≡ pos (reached nearest table-106-1 n (pos v) (pos distance)) ⌝ }
+// The entry at the row; 10,000 where all readings are equal.
+fn reached(n: u32, v: u64, d: i64) -> Hundredths
+    requires { ⌜ SpreadInBounds n v × DistanceInBounds d ⌝ }
+    ensures { λ r. ⌜ r .0 ≡ pos (reached nearest table-106-1 n (pos v) d) ⌝ }
 {
     if v == 0 {
         Hundredths(10000)
     } else {
-        table::entry(n as usize, row(n as u64, v, distance) as usize)
+        table::entry(n as usize, row(n as u64, v, d) as usize)
     }
 }
 
@@ -39,23 +38,23 @@ fn rest(part: Hundredths) -> Hundredths
 
 // The percentage of a side at a distance D.
 fn side(n: u32, v: u64, d: i64) -> Hundredths
-    requires { ⌜ Spreads n v × Distant (natAbs d) ⌝ }
+    requires { ⌜ SpreadInBounds n v × DistanceInBounds d ⌝ }
     ensures { λ r. ⌜ r .0 ≡ side nearest table-106-1 n (pos v) d ⌝ }
 {
-    let e = reached(n, v, magnitude(d));
+    let e = reached(n, v, d);
     if 0 <= d { e } else { rest(e) }
 }
 
 fn difference(x: i64, y: i64) -> i64
     requires { ⌜ (natAbs x ≤ most * 500000) × (natAbs y ≤ most * 500000) ⌝ }
-    ensures { λ r. ⌜ (r ≡ x -ℤ y) × Distant (natAbs r) ⌝ }
+    ensures { λ r. ⌜ (r ≡ x -ℤ y) × DistanceInBounds r ⌝ }
 {
     x - y
 }
 
 // The side at the distance x − y.
 fn side_between(n: u32, v: u64, x: i64, y: i64) -> Hundredths
-    requires { ⌜ Spreads n v × (natAbs x ≤ most * 500000) × (natAbs y ≤ most * 500000) ⌝ }
+    requires { ⌜ SpreadInBounds n v × (natAbs x ≤ most * 500000) × (natAbs y ≤ most * 500000) ⌝ }
     ensures { λ r. ⌜ r .0 ≡ side nearest table-106-1 n (pos v) (x -ℤ y) ⌝ }
 {
     side(n, v, difference(x, y))

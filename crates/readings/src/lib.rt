@@ -16,7 +16,7 @@ ghost use Rattle.rules.specs.Percent.{totals, spread};
 ghost use Rattle.rules.specs.Deviation.{before-midpoint-above, deviation};
 ghost use Rattle.rules.specs.Answers.{mean-said, deviation-said};
 ghost use Rattle.rules.specs.Entries.{mean-says, deviation-says};
-ghost use Rattle.laws.specs.Bounds.{Accepted, Bounded};
+ghost use Rattle.laws.specs.Bounds.{Accepted, Bounded, SpreadInBounds};
 
 // A number without its sign. Inner: total, but no entry.
 pub fn magnitude(z: i64) -> u64
@@ -72,7 +72,7 @@ pub fn spread(a: Totals) -> u64
 
 // 4V < (2s+1)²·n·(n−1)
 fn before_midpoint_above(n: u64, v: u64, s: u64) -> bool
-    requires { ⌜ (2 ≤ n) × (n ≤ most) × (v ≤ 100000000000000) × (s ≤ 10000000) ⌝ }
+    requires { ⌜ SpreadInBounds n v × (s ≤ 10000000) ⌝ }
     ensures { λ r. ⌜ r ≡ before-midpoint-above n (pos v) s ⌝ }
 {
     4 * v < (2 * s + 1) * (2 * s + 1) * n * (n - 1)
@@ -80,7 +80,7 @@ fn before_midpoint_above(n: u64, v: u64, s: u64) -> bool
 
 // s, by a search from zero. Inner: the entries pass n and V of readings that are not refused.
 pub fn rounded(n: u64, v: u64) -> u64
-    requires { ⌜ (2 ≤ n) × (n ≤ most) × (v ≤ 100000000000000) ⌝ }
+    requires { ⌜ SpreadInBounds n v ⌝ }
     ensures { λ r. ⌜ (r ≡ deviation n (pos v)) × (r ≤ 10000000) ⌝ }
 {
     let mut s = 0;

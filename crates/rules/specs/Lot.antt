@@ -22,8 +22,11 @@ pub record Lot : Type 0 where
 abbrev pub lot-of : Limit → Limit → List ℤ → Lot
 lot-of upper lower xs = record { n = length xs; upper = upper; lower = lower; readings = xs }
 
+abbrev pub plain : List Thousandths → List ℤ
+plain xs = map (λ (x : Thousandths). x .0) xs
+
 abbrev pub places : HeldLot → List ℤ
-places held = map (λ (x : Thousandths). x .0) (held .readings)
+places held = plain (held .readings)
 
 -- of a lot in memory, which says how many of its places are its readings
 abbrev pub lot-in : HeldLot → Lot

@@ -1,6 +1,6 @@
 -- The loop has copied the first i places.
 use mathlib.Core.Path.{_≡_, refl, sym, ap₂, _∙_}
-use mathlib.Core.List.{List, [], _∷_, _++_, map}
+use mathlib.Core.List.{List, [], _∷_, _++_}
 use Prim.Native.Nat.{ℕ, suc, _-_, _≤_, _<_}
 use native.Mathlib.Numerals.{add-one}
 use native.Mathlib.Omega.{arith}
@@ -12,12 +12,9 @@ use mir.Val.{SFits}
 use mir.Facts.{toZ-ofZ}
 use Rattle.rules.specs.declared.Thousandths.{Thousandths}
 use Rattle.rules.specs.Units.{thousandths}
-use Rattle.rules.specs.Lot.{most}
+use Rattle.rules.specs.Lot.{most, plain}
 use Rattle.quality.proofs.numbers.Statement.{statement}
 use Rattle.quality.proofs.numbers.Tie as tie
-
-abbrev plain : List Thousandths → List ℤ
-plain xs = map (λ (x : Thousandths). x .0) xs
 
 abbrev Inv-loop : tie.InvT-loop
 Inv-loop readings numbers₀ i₀ numbers i = (i ≤ most) × (length numbers ≡ most) × (take i numbers ≡ take i (plain readings))

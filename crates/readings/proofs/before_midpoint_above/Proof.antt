@@ -28,10 +28,10 @@ add-result-2 : tie.Need-add-result-2
 add-result-2 c = search needs
 
 mul-result-4 : tie.Need-mul-result-4
-mul-result-4 c = fits-below tt (squared (c .pre .3))
+mul-result-4 c = fits-below tt (squared (c .pre .1))
 
 mul-result-5 : tie.Need-mul-result-5
-mul-result-5 c = fits-below {n = 20000001 * 20000001 * most} tt (mul-le-mul (squared (c .pre .3)) (c .pre .1))
+mul-result-5 c = fits-below {n = 20000001 * 20000001 * most} tt (mul-le-mul (squared (c .pre .1)) (c .pre .0 .few))
 
 sub-result : tie.Need-sub-result
 sub-result c = search needs
@@ -39,7 +39,7 @@ sub-result c = search needs
 mul-result-6 : tie.Need-mul-result-6
 mul-result-6 c =
     let less : c .args .n - 1 ≤ most = omega arith in
-    fits-below {n = 20000001 * 20000001 * most * most} tt (mul-le-mul (mul-le-mul (squared (c .pre .3)) (c .pre .1)) less)
+    fits-below {n = 20000001 * 20000001 * most * most} tt (mul-le-mul (mul-le-mul (squared (c .pre .1)) (c .pre .0 .few)) less)
 
 returns : tie.Need-returns
 returns c = search needs

@@ -16,7 +16,7 @@ use Rattle.rules.specs.Entries.{deviation-says}
 use Rattle.laws.specs.Bounds.{Bounded}
 use Rattle.laws.proofs.Ruled.{outcome-answers, outcome-refused}
 use Rattle.laws.proofs.Accepted.{readings-accepted}
-use Rattle.laws.proofs.Bounds.{totals-bounded, spread-bound}
+use Rattle.laws.proofs.Bounds.{totals-bounded, spread-in-bounds}
 use Rattle.readings.proofs.deviation.Statement.{statement}
 use Rattle.readings.proofs.deviation.Tie as tie
 
@@ -49,8 +49,7 @@ spread-requires c κs = bounded (c .before)
 
 rounded-requires : tie.Need-rounded-requires
 rounded-requires c κs =
-    let b : Bounded (c .before .before .totals .result) = bounded (c .before .before) in
-    (b .least, b .few, omega (arith, ap natAbs (c .spread .ensures), spread-bound b .spread))
+    spread-in-bounds (bounded (c .before .before)) (c .spread .ensures)
 
 cast-t9 : tie.Need-cast-t9
 cast-t9 c = search needs

@@ -14,7 +14,7 @@ use Rattle.rules.specs.Entries.{mean-says}
 use Rattle.laws.specs.Bounds.{Bounded}
 use Rattle.laws.proofs.Ruled.{outcome-answers, outcome-refused}
 use Rattle.laws.proofs.Accepted.{readings-accepted}
-use Rattle.laws.proofs.Bounds.{totals-bounded}
+use Rattle.laws.proofs.Bounds.{totals-bounded, total-bound}
 use Rattle.readings.proofs.mean.Statement.{statement}
 use Rattle.readings.proofs.mean.Tie as tie
 
@@ -42,8 +42,8 @@ bounded c =
 cast-t6 : tie.Need-cast-t6
 cast-t6 c =
     let b : Bounded (c .before .before .totals .result) = bounded (c .before .before) in
-    let f : SFits w64 (c .before .before .totals .result .t) = fits-of w64 (omega (arith, b .few, b .sum)) in
-    simp toZ-ofZ (fits-of w32 (omega (arith, b .few, b .sum)))
+    let f : SFits w64 (c .before .before .totals .result .t) = fits-of w64 (omega (arith, total-bound b)) in
+    simp toZ-ofZ (fits-of w32 (omega (arith, total-bound b)))
 
 returns : tie.Need-returns
 unfolding mean-says
@@ -53,8 +53,8 @@ returns-2 : tie.Need-returns-2
 unfolding mean-says
 returns-2 c =
     let b : Bounded (c .before .before .totals .result) = bounded (c .before .before) in
-    let f : SFits w64 (c .before .before .totals .result .t) = fits-of w64 (omega (arith, b .few, b .sum)) in
-    let g : SFits w32 (c .before .before .totals .result .t) = fits-of w32 (omega (arith, b .few, b .sum)) in
+    let f : SFits w64 (c .before .before .totals .result .t) = fits-of w64 (omega (arith, total-bound b)) in
+    let g : SFits w32 (c .before .before .totals .result .t) = fits-of w32 (omega (arith, total-bound b)) in
     simp toZ-ofZ
     (ap mean-of (c .before .before .totals .ensures)
     ∙ sym (outcome-answers _ (c .before .before .before .before .before .readings .ensures) _ (c .before .before .before .enum-told .given .1)))

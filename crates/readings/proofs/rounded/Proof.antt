@@ -24,18 +24,17 @@ loop-holds c = tt
 
 before-midpoint-above-requires : tie.Need-before-midpoint-above-requires Inv-loop μ-loop
 before-midpoint-above-requires c κs =
-    let p = c .before .pre in
-    (p .0, p .1, p .2, small (c .before .args .n) (c .before .args .v) (c .loop .s) (p .0) (p .2) (c .loop .inv))
+    (c .before .pre, small (c .before .args .n) (c .before .args .v) (c .loop .s) (c .before .pre) (c .loop .inv))
 
 add-s : tie.Need-add-s Inv-loop μ-loop
 add-s c =
-    let p = c .before .before .before .pre in
-    omega (arith, small (c .before .before .before .args .n) (c .before .before .before .args .v) (c .before .before .loop .s) (p .0) (p .2) (c .before .before .loop .inv))
+    let start = c .before .before .before in
+    omega (arith, small (start .args .n) (start .args .v) (c .before .before .loop .s) (start .pre) (c .before .before .loop .inv))
 
 loop-less : tie.Need-loop-less Inv-loop μ-loop
 loop-less c =
-    let p = c .before .before .before .pre in
-    omega (arith, small (c .before .before .before .args .n) (c .before .before .before .args .v) (c .before .before .loop .s) (p .0) (p .2) (c .before .before .loop .inv))
+    let start = c .before .before .before in
+    omega (arith, small (start .args .n) (start .args .v) (c .before .before .loop .s) (start .pre) (c .before .before .loop .inv))
 
 loop-again : tie.Need-loop-again Inv-loop μ-loop
 loop-again c =
@@ -51,8 +50,8 @@ returns c =
     let p = c .before .before .before .pre in
     let below : T (from-midpoint-below n (pos v) s) = c .before .before .loop .inv in
     let above : before-midpoint-above n (pos v) s ≡ true = sym (c .before .before-midpoint-above .ensures) ∙ not-false _ (c .if1 .left) in (
-      sym (determined n v s (p .0) (and-i (before-midpoint-above n (pos v) s) (from-midpoint-below n (pos v) s) (subst⁻¹ T above tt) below)),
-      small n v s (p .0) (p .2) below,
+      sym (determined n v s (p .least) (and-i (before-midpoint-above n (pos v) s) (from-midpoint-below n (pos v) s) (subst⁻¹ T above tt) below)),
+      small n v s p below,
     )
 
 pub rounded-spec : {M : Type 1} → statement M

@@ -10,7 +10,7 @@ use Rattle.integers.proofs.Magnitude.{natAbs-pos, fits-of}
 use Rattle.rules.specs.declared.Totals.{Totals}
 use Rattle.rules.specs.Percent.{spread}
 use Rattle.laws.specs.Bounds.{Bounded}
-use Rattle.laws.proofs.Bounds.{Spread, spread-bound}
+use Rattle.laws.proofs.Bounds.{SpreadParts, total-bound, spread-parts}
 use Rattle.readings.proofs.spread.Statement.{statement}
 use Rattle.readings.proofs.spread.Tie as tie
 
@@ -26,10 +26,10 @@ record Fits (a : Totals) : Type 0 where
 fits : (a : Totals) → Bounded a → Fits a
 unfolding spread
 fits a h =
-    let b : Spread a = spread-bound h in
+    let b : SpreadParts a = spread-parts h in
     record {
       n = toZ-pos w64 (omega (arith, h .few));
-      t = fits-of w64 (omega (arith, h .few, h .sum));
+      t = fits-of w64 (omega (arith, total-bound h));
       z = fits-of w64 (omega (arith, h .few, h .squares));
       product = fits-of w64 (omega (arith, b .product));
       square = fits-of w64 (omega (arith, b .square));

@@ -11,7 +11,7 @@ use Rattle.integers.proofs.Magnitude.{fits-of}
 use Rattle.rules.specs.Lot.{most}
 use Rattle.rules.specs.Table.{table-106-1}
 use Rattle.rules.specs.Percent.{lower-distance, nearest, side, lower-side}
-use Rattle.laws.proofs.Bounds.{spreads, limit-bound}
+use Rattle.laws.proofs.Bounds.{total-bound, spread-in-bounds, limit-bound}
 use Rattle.quality.proofs.side.lower_side.Statement.{statement}
 use Rattle.quality.proofs.side.lower_side.Tie as tie
 
@@ -26,17 +26,13 @@ times-requires c κs =
     let start = c .before .before .before in
     (start .pre .0 .few, limit-bound (start .args .lower) (c .before .lower .given .1) (start .pre .2))
 
--- T and its bound
-total : (c : tie.Start) → natAbs (c .args .a .t) ≤ most * 500000
-total c = omega (arith, c .pre .0 .few, c .pre .0 .sum)
-
 side-between-requires : tie.Need-side-between-requires
 side-between-requires c κs =
     let start = c .before .before .before .before .before in
     let p : SFits w64 (c .before .times .result) = record { sfits = c .before .times .ok } in
-    let h : natAbs (start .args .a .t) ≤ most * 500000 = total start in
+    let h : natAbs (start .args .a .t) ≤ most * 500000 = total-bound (start .pre .0) in
     let t : SFits w64 (start .args .a .t) = fits-of w64 (omega arith) in
-    simp toZ-ofZ (spreads (start .pre .0) (start .pre .1), h, c .before .times .ensures .1)
+    simp toZ-ofZ (spread-in-bounds (start .pre .0) (start .pre .1), h, c .before .times .ensures .1)
 
 returns : tie.Need-returns
 unfolding lower-side
@@ -47,7 +43,7 @@ unfolding lower-distance lower-side
 returns-2 c =
     let start = c .before .before .before .before .before .before in
     let p : SFits w64 (c .before .before .times .result) = record { sfits = c .before .before .times .ok } in
-    let h : natAbs (start .args .a .t) ≤ most * 500000 = total start in
+    let h : natAbs (start .args .a .t) ≤ most * 500000 = total-bound (start .pre .0) in
     let t : SFits w64 (start .args .a .t) = fits-of w64 (omega arith) in
     rw (c .before .before .before .before .lower .given .1)
     ((simp toZ-ofZ at (c .side-between .ensures))

@@ -1,10 +1,11 @@
 -- V of 0 reaches 10,000, any other the entry at the row.
-use mathlib.Core.Path.{sym, ap, _∙_}
+use mathlib.Core.Path.{_≡_, sym, ap, _∙_}
 use Prim.Native.Nat.{ℕ}
 use native.Mathlib.Omega.{arith}
 use borrow.Author.Needs.{needs}
 use borrow.Author.Tests.{lt-ltb, le-ltb}
 use lib.IntN.{pos}
+use mir.Facts.{toZ-ofZ}
 use Rattle.rules.specs.Table.{table-106-1, entry}
 use Rattle.rules.specs.Percent.{nearest}
 use Rattle.laws.proofs.Row.{row-at-most}
@@ -19,19 +20,22 @@ entry-requires : tie.Need-entry-requires
 entry-requires c κs =
     let args = c .before .before .args in
     let s = c .before .before .pre .0 in
-    (s .least, s .few, omega (arith, c .row .ensures, row-at-most (args .n) (pos (args .v)) (pos (args .distance))))
+    let f = c .before .before .fits .d in
+    let k : c .row .result ≡ nearest (args .n) (pos (args .v)) (args .d) = simp toZ-ofZ at (c .row .ensures) in
+    (s .least, s .few, omega (arith, row-at-most (args .n) (pos (args .v)) (args .d)))
 
 returns : tie.Need-returns
 returns c =
     let args = c .before .args in
-    sym (ap pos (reached-whole nearest table-106-1 (args .n) (pos (args .v)) (pos (args .distance)) (le-ltb 0 (args .v) (omega arith))))
+    sym (ap pos (reached-whole nearest table-106-1 (args .n) (pos (args .v)) (args .d) (le-ltb 0 (args .v) (omega arith))))
 
 returns-2 : tie.Need-returns-2
 returns-2 c =
     let args = c .before .before .before .args in
+    let f = c .before .before .before .fits .d in
     c .entry .ensures
-    ∙ ap (λ (k : ℕ). pos (entry table-106-1 (args .n) k)) (c .before .row .ensures)
-    ∙ sym (ap pos (reached-entry nearest table-106-1 (args .n) (pos (args .v)) (pos (args .distance)) (lt-ltb 0 (args .v) (omega arith))))
+    ∙ ap (λ (k : ℕ). pos (entry table-106-1 (args .n) k)) (simp toZ-ofZ at (c .before .row .ensures))
+    ∙ sym (ap pos (reached-entry nearest table-106-1 (args .n) (pos (args .v)) (args .d) (lt-ltb 0 (args .v) (omega arith))))
 
 pub reached-spec : {M : Type 1} → statement M
 reached-spec = tie.close (tie.spec row-requires entry-requires returns returns-2)

@@ -1,6 +1,5 @@
 -- What the side reaches, or the rest to 10,000, by the sign of the distance.
-use mathlib.Core.Path.{_≡_, sym, ap, _∙_, subst⁻¹}
-use Prim.Native.Nat.{ℕ}
+use mathlib.Core.Path.{_≡_, sym, ap, _∙_}
 use native.Mathlib.Omega.{arith}
 use borrow.Author.Needs.{needs}
 use lib.IntN.{ℤ, pos, natAbs, _-ℤ_}
@@ -8,49 +7,42 @@ use mir.Facts.{toZ-ofZ}
 use Rattle.rules.specs.Units.{hundred-percent}
 use Rattle.rules.specs.Table.{table-106-1}
 use Rattle.rules.specs.Percent.{nearest}
-use Rattle.laws.specs.Bounds.{Distant}
 use Rattle.laws.specs.Reached.{reached}
 use Rattle.laws.proofs.Table.{table-106-1-column}
 use Rattle.laws.proofs.Row.{row-at-most}
-use Rattle.laws.proofs.Side.{reached-at-most, reached-by-magnitude, side-inside, side-outside}
+use Rattle.laws.proofs.Side.{reached-at-most, side-inside, side-outside}
 use Rattle.quality.proofs.side.side.Statement.{statement}
 use Rattle.quality.proofs.side.side.Tie as tie
 
-magnitude-requires : tie.Need-magnitude-requires
-magnitude-requires c κs = search needs
-
 reached-requires : tie.Need-reached-requires
-reached-requires c κs =
-    let f = c .before .fits .d in
-    (c .before .pre .0, subst⁻¹ Distant (simp toZ-ofZ at (c .magnitude .ensures)) (c .before .pre .1))
+reached-requires c κs = search needs
 
-value : (c : tie.After-reached) → c .reached .result .0 ≡ pos (reached nearest table-106-1 (c .before .before .args .n) (pos (c .before .before .args .v)) (c .before .before .args .d))
-value c =
-    let args = c .before .before .args in
-    let f = c .before .before .fits .d in
-    c .reached .ensures
-    ∙ ap (λ (m : ℕ). pos (reached nearest table-106-1 (args .n) (pos (args .v)) (pos m))) (simp toZ-ofZ at (c .before .magnitude .ensures))
-    ∙ ap pos (reached-by-magnitude table-106-1 (args .n) (pos (args .v)) (args .d))
+value : (c : tie.After-reached) → c .reached .result .0 ≡ pos (reached nearest table-106-1 (c .before .args .n) (pos (c .before .args .v)) (c .before .args .d))
+value c = let f = c .before .fits .d in simp toZ-ofZ at (c .reached .ensures)
 
 rest-requires : tie.Need-rest-requires
 rest-requires c κs =
-    let args = c .before .before .before .args in
-    let s = c .before .before .before .pre .0 in
-    omega (arith, ap natAbs (value (c .before)), reached-at-most nearest table-106-1 (args .n) (pos (args .v)) (args .d) (row-at-most (args .n) (pos (args .v)) (args .d)) (table-106-1-column (args .n) (s .least) (s .few)))
+    let args = c .before .before .args in
+    let s = c .before .before .pre .0 in
+    omega (
+      arith,
+      ap natAbs (value (c .before)),
+      reached-at-most nearest table-106-1 (args .n) (pos (args .v)) (args .d) (row-at-most (args .n) (pos (args .v)) (args .d)) (table-106-1-column (args .n) (s .least) (s .few)),
+    )
 
 returns : tie.Need-returns
 returns c =
-    let args = c .before .before .before .args in
-    let f = c .before .before .before .fits .d in
+    let args = c .before .before .args in
+    let f = c .before .before .fits .d in
     value (c .before) ∙ sym (side-inside nearest table-106-1 (args .n) (pos (args .v)) (args .d) (simp toZ-ofZ at (c .if1 .taken)))
 
 returns-2 : tie.Need-returns-2
 returns-2 c =
-    let args = c .before .before .before .before .args in
-    let f = c .before .before .before .before .fits .d in
+    let args = c .before .before .before .args in
+    let f = c .before .before .before .fits .d in
     c .rest .ensures
     ∙ ap (λ (e : ℤ). hundred-percent -ℤ e) (value (c .before .before))
     ∙ sym (side-outside nearest table-106-1 (args .n) (pos (args .v)) (args .d) (simp toZ-ofZ at (c .before .if1 .left)))
 
 pub side-spec : {M : Type 1} → statement M
-side-spec = tie.close (tie.spec magnitude-requires reached-requires rest-requires returns returns-2)
+side-spec = tie.close (tie.spec reached-requires rest-requires returns returns-2)

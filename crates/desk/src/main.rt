@@ -11,6 +11,7 @@ use rules::DeviationAnswer;
 use rules::Evaluation;
 use rules::HeldLot;
 use rules::Limit;
+use rules::MOST;
 use rules::MeanAnswer;
 use rules::Refusal;
 use rules::Thousandths;
@@ -188,10 +189,7 @@ fn limits() {
 }
 
 // A lot in memory: its first `count` places are its readings.
-fn held(name: &[u8], count: u32, upper: Limit, lower: Limit) {
-    let t = Thousandths(4000);
-    let z = Thousandths(600000);
-    let readings = [t, t, t, z, z, z, z, z, z, z];
+fn held(name: &[u8], readings: [Thousandths; MOST], count: u32, upper: Limit, lower: Limit) {
     words(name);
     words(b": ");
     show_evaluation(evaluate_held(HeldLot {
@@ -205,13 +203,53 @@ fn held(name: &[u8], count: u32, upper: Limit, lower: Limit) {
 
 fn in_memory() {
     words(b"\nIn memory\n");
-    held(b"1 reading", 1, at(4000), Limit::Absent);
-    held(b"3 readings", 3, at(4000), at(4000));
-    held(b"4 readings, one out of range", 4, at(4000), at(4000));
-    held(b"3 readings, no limit", 3, Limit::Absent, Limit::Absent);
-    held(b"3 readings, lower above upper", 3, at(3999), at(4000));
-    held(b"11 readings", 11, at(4000), at(4000));
-    held(b"4294967295 readings", 4294967295, at(4000), at(4000));
+    let voids = [
+        Thousandths(4200),
+        Thousandths(4500),
+        Thousandths(3300),
+        Thousandths(5000),
+        Thousandths(5400),
+        Thousandths(2500),
+        Thousandths(3800),
+        Thousandths(4100),
+        Thousandths(4300),
+        Thousandths(4500),
+    ];
+    held(b"Voids", voids, 10, at(5350), at(2650));
+    let near = Thousandths(4000);
+    let out = Thousandths(600000);
+    let places = [near, near, near, out, out, out, out, out, out, out];
+    held(b"1 reading", places, 1, at(4000), Limit::Absent);
+    held(b"3 readings", places, 3, at(4000), at(4000));
+    held(
+        b"4 readings, one out of range",
+        places,
+        4,
+        at(4000),
+        at(4000),
+    );
+    held(
+        b"3 readings, no limit",
+        places,
+        3,
+        Limit::Absent,
+        Limit::Absent,
+    );
+    held(
+        b"3 readings, lower above upper",
+        places,
+        3,
+        at(3999),
+        at(4000),
+    );
+    held(b"11 readings", places, 11, at(4000), at(4000));
+    held(
+        b"4294967295 readings",
+        places,
+        4294967295,
+        at(4000),
+        at(4000),
+    );
 }
 
 fn main() {

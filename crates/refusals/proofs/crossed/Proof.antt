@@ -1,3 +1,4 @@
+-- Two limits that are present are compared by their numbers, which fit.
 use mir.Syntax.{w32}
 use mir.Val.{SFits}
 use Rattle.rules.specs.declared.Thousandths.{Thousandths}

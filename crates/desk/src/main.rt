@@ -201,8 +201,7 @@ fn held(name: &[u8], readings: [Thousandths; MOST], count: u32, upper: Limit, lo
     words(b"\n");
 }
 
-fn in_memory() {
-    words(b"\nIn memory\n");
+fn voids_in_memory() {
     let voids = [
         Thousandths(4200),
         Thousandths(4500),
@@ -216,6 +215,11 @@ fn in_memory() {
         Thousandths(4500),
     ];
     held(b"Voids", voids, 10, at(5350), at(2650));
+}
+
+fn in_memory() {
+    words(b"\nIn memory\n");
+    voids_in_memory();
     let near = Thousandths(4000);
     let out = Thousandths(600000);
     let places = [near, near, near, out, out, out, out, out, out, out];

@@ -205,9 +205,21 @@ def symbols_mean_the_librarys(root):
     return found
 
 
+def plain_imports(root):
+    """The place of each source, with a name that a plain `use` line brings and that no code there says."""
+    for file in sorted(root.glob("crates/*/src/**/*.rt")):
+        text = plain_rattle(file.read_text("utf-8"))
+        # a contract speaks of definitions, which may be called as a function is
+        code = re.sub(r"(?m)⌜.*?⌝|^\s*(?:pub\s+|ghost\s+)?use\s[^;]*;", "", text, flags=re.S)
+        for path in re.findall(r"(?m)^\s*use\s+([\w:]+);", text):
+            name = path.split("::")[-1]
+            if not re.search(rf"\b{name}\b", code):
+                yield file.relative_to(root), name
+
+
 def imports_are_used(root):
     """Whatever a `use` line brings is named below it."""
-    found = []
+    found = [f"{place}: `{name}` is brought and not used" for place, name in plain_imports(root)]
     for place, text, keyword in texts(root):
         rest = re.sub(rf"(?m)^\s*{keyword}\s[^{{;\n]*(?:\{{[^}}]*\}})?[^\n]*", "", text)
         tokens = set(re.findall(NAME, rest))

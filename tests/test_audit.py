@@ -29,6 +29,8 @@ ghost use lib.Ieee as Ieee;
 
 mod inner;
 
+use inner::quiet;
+
 pub struct Pair(u8, u8);
 
 impl Pair {
@@ -36,7 +38,7 @@ impl Pair {
     pub fn first(self) -> u8
         ensures { λ r. ⌜ r ≡ total {x = self .0} ⌝ }
     {
-        inner::kept(self.0)
+        inner::kept(quiet(self.0))
     }
 }
 
@@ -174,6 +176,8 @@ FAULTS = {
         "renamed": (SPEC, "getD as at", "getD as nth"),
         "a_module": (SPEC, "specs.Other as T", "specs.Other as other"),
         "ghost": (LIB, "    _+_,", "    _+_,\n    _*_,"),
+        "plain": (LIB, "quiet(self.0)", "self.0"),
+        "plain_but_for_a_contract": (LIB, "use inner::quiet;", "use inner::quiet;\nuse inner::total;"),
     },
     "no_hole_is_left": {
         "a_hole": (PROOF, "in refl", "in ?"),

@@ -1,5 +1,6 @@
 // The examples of document 01, run. A line for each lot: the sum T and the count n, the deviation in thousandths, and the two sides and
-// PWL in hundredths; or, for each of the three, the number of the refusal.
+// PWL in hundredths; or, for each of the three, the number of the refusal. Of a lot in memory, the last
+// of the three alone.
 use io::print_decimal;
 use libc::STDOUT_FILENO;
 use quality::evaluate;

@@ -5,6 +5,7 @@ mod side;
 use readings::spread;
 use readings::totals;
 use rules::Evaluation;
+use rules::HUNDRED_PERCENT;
 use rules::HeldLot;
 use rules::Hundredths;
 use rules::Limit;
@@ -32,7 +33,7 @@ fn within(upper: Hundredths, lower: Hundredths) -> Hundredths
     requires { ⌜ InPercent (upper .0) × InPercent (lower .0) ⌝ }
     ensures { λ r. ⌜ r .0 ≡ within (upper .0) (lower .0) ⌝ }
 {
-    Hundredths(upper.0 + lower.0 - 10000)
+    Hundredths(upper.0 + lower.0 - HUNDRED_PERCENT)
 }
 
 fn percentages(a: Totals, upper: Limit, lower: Limit) -> Percentages

@@ -1,5 +1,6 @@
 // The percentage of a side.
 use crate::row::row;
+use rules::HUNDRED_PERCENT;
 use rules::Hundredths;
 use rules::Limit;
 use rules::Thousandths;
@@ -22,7 +23,7 @@ fn reached(n: u32, v: u64, d: i64) -> Hundredths
     ensures { λ r. ⌜ r .0 ≡ pos (reached nearest table-106-1 n (pos v) d) ⌝ }
 {
     if v == 0 {
-        Hundredths(10000)
+        Hundredths(HUNDRED_PERCENT)
     } else {
         table::entry(n as usize, row(n as u64, v, d) as usize)
     }
@@ -33,7 +34,7 @@ fn rest(part: Hundredths) -> Hundredths
     requires { ⌜ natAbs (part .0) ≤ 10000 ⌝ }
     ensures { λ r. ⌜ r .0 ≡ hundred-percent -ℤ part .0 ⌝ }
 {
-    Hundredths(10000 - part.0)
+    Hundredths(HUNDRED_PERCENT - part.0)
 }
 
 // The percentage of a side at a distance D.
@@ -73,7 +74,7 @@ pub fn upper_side(a: Totals, v: u64, upper: Limit) -> Hundredths
     ensures { λ r. ⌜ r .0 ≡ upper-side nearest table-106-1 a upper ⌝ }
 {
     match upper {
-        Limit::Absent => Hundredths(10000),
+        Limit::Absent => Hundredths(HUNDRED_PERCENT),
         Limit::At(u) => side_between(a.n, v, times(a.n, u), a.t),
     }
 }
@@ -84,7 +85,7 @@ pub fn lower_side(a: Totals, v: u64, lower: Limit) -> Hundredths
     ensures { λ r. ⌜ r .0 ≡ lower-side nearest table-106-1 a lower ⌝ }
 {
     match lower {
-        Limit::Absent => Hundredths(10000),
+        Limit::Absent => Hundredths(HUNDRED_PERCENT),
         Limit::At(l) => side_between(a.n, v, a.t, times(a.n, l)),
     }
 }

@@ -41,6 +41,7 @@ deviation-says xs = ruled (readings-meet xs) (thousandths (deviation-of (length 
 -- ---- direct evaluation
 
 module _ (rule : Rule) (table : Table) where
+  -- both sides and PWL, of n, T and Z and two limits
   unfoldable pub percentages-of : Totals → Limit → Limit → Percentages
   percentages-of a upper lower =
       let u : ℤ = upper-side rule table a upper in

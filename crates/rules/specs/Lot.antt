@@ -22,6 +22,7 @@ pub record Lot : Type 0 where
 abbrev pub lot-of : Limit → Limit → List ℤ → Lot
 lot-of upper lower xs = record { n = length xs; upper = upper; lower = lower; readings = xs }
 
+-- readings as plain numbers, whose kind is understood
 abbrev pub plain : List Thousandths → List ℤ
 plain xs = map (λ (x : Thousandths). x .0) xs
 

@@ -5,6 +5,9 @@ ghost use Rattle.rules.specs.Refusals.{number-of};
 // The most readings that a lot can hold.
 pub const MOST: usize = 10;
 
+// 100 percent, in hundredths.
+pub const HUNDRED_PERCENT: i64 = 10000;
+
 // Thousandths, whole: a reading, a limit, a sum of readings, a deviation.
 pub struct Thousandths(pub i32);
 

@@ -3,3 +3,4 @@ pub mod Ring
 pub mod Order
 pub mod Magnitude
 pub mod Square
+pub mod Division

@@ -7,7 +7,7 @@ use lib.IntN.{ℤ, pos, negsuc, negℤ, natAbs, _+ℤ_, _-ℤ_, _*ℤ_}
 use lib.Signed.{_≤ℤ_, yes-nonNeg, pos-natAbs}
 use mir.Syntax.{Width}
 use mir.Val.{hbits, SFits}
-use Rattle.integers.proofs.Difference.{Diff, up, down, var, nat, eq-diff, diff-le, le-diff, ⊝_, _⊕_, _⊖_}
+use Rattle.integers.proofs.Difference.{Diff, up, down, var, nat, eq-diff, diff-le, le-diff, arithℤ, ⊝_, _⊕_, _⊖_}
 
 -- A magnitude by the parts of its integer, one of which is zero.
 pub natAbs-parts : (z : ℤ) → natAbs z ≡ up z + down z
@@ -55,6 +55,15 @@ pub natAbs-left : (v w q : ℤ) → pos 0 ≤ℤ v → pos 0 ≤ℤ q → v ≡ 
 natAbs-left (pos a) w (pos b) h k e = omega (arith, natAbs-parts w, eq-diff (nat a) (var w ⊖ nat b) e)
 natAbs-left (pos a) w (negsuc b) h k e = absurd (k .le)
 natAbs-left (negsuc a) w q h k e = absurd (h .le)
+
+-- Magnitudes keep the order of what is not negative, and turn that of what is not positive round.
+pub natAbs-mono : {x y : ℤ} → pos 0 ≤ℤ x → x ≤ℤ y → natAbs x ≤ natAbs y
+natAbs-mono {x = pos a} {y = pos b} h k = omega arithℤ
+natAbs-mono {x = pos a} {y = negsuc b} h k = absurd (k .le)
+natAbs-mono {x = negsuc a} h k = absurd (h .le)
+
+pub natAbs-falls : {x y : ℤ} → y ≤ℤ pos 0 → x ≤ℤ y → natAbs y ≤ natAbs x
+natAbs-falls {x} {y} h k = simp (natAbs-neg x, natAbs-neg y) at (natAbs-mono {x = negℤ y} {y = negℤ x} (diff-le (nat 0) (⊝ var y) (omega arithℤ)) (diff-le (⊝ var y) (⊝ var x) (omega arithℤ)))
 
 -- An integer that is not negative is its magnitude.
 pub natAbs-pos : {z : ℤ} → pos 0 ≤ℤ z → pos (natAbs z) ≡ z

@@ -19,7 +19,7 @@ use Rattle.laws.specs.Bounds.{Accepted}
 use Rattle.laws.proofs.Ruled.{none-met, nothing-refused}
 use Rattle.laws.proofs.Tests.{neither}
 
-counted : (n : ℕ) → count-case n .applies ≡ false → (2 ≤ n) × (n ≤ most)
+pub counted : (n : ℕ) → count-case n .applies ≡ false → (2 ≤ n) × (n ≤ most)
 counted n e =
     let h : (leb 2 n ≡ true) × (leb n most ≡ true) = and-eq-true-iff (leb 2 n) (leb n most) .0 (not-false (allowed n) e) in
     (leb-true 2 n (h .0), leb-true n most (h .1))

@@ -37,6 +37,18 @@ ruled-given (c ∷ cs) a = by (c .applies) (ruled-given cs a)
     by true later = refl
     by false later = later
 
+-- What is answered are the values, and then no refusal is given.
+pub ruled-answers : {A : Type 0} (cs : List Case) (a b : A) → ruled cs a ≡ answers b → (checked cs ≡ answers tt) × (a ≡ b)
+ruled-answers {A} cs a b e = by (checked cs) (sym (ruled-given cs a) ∙ e)
+  where
+    value : Said A → A
+    value (refused k) = a
+    value (answers x) = x
+
+    by : (s : Said (Unit {0})) → given a s ≡ answers b → (s ≡ answers tt) × (a ≡ b)
+    by (refused k) h = absurd (let z : _≡_ {A = ℕ} 0 1 = cc in omega arith)
+    by (answers u) h = (refl, ap value h)
+
 -- Where none is given, no case applies.
 pub none-met : (c : Case) (cs : List Case) → checked (c ∷ cs) ≡ answers tt → (c .applies ≡ false) × (checked cs ≡ answers tt)
 unfolding ruled

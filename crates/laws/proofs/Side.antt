@@ -2,12 +2,12 @@
 use mathlib.Core.Path.{_≡_, refl}
 use mathlib.Core.Bool.{Bool, true, false, cond}
 use lib.IntN.{ℤ, pos, natAbs, _-ℤ_}
-use lib.Signed.{leZ, ltZ}
+use lib.Signed.{_<ℤ_, leZ, ltZ}
 use Prim.Native.Nat.{ℕ, _≤_, zero-le}
 use native.Mathlib.Nat.{le-refl}
 use native.Mathlib.Omega.{arith}
 use Rattle.integers.proofs.Difference.{nat, diff-le, ⊝_, _⊖_}
-use Rattle.integers.proofs.Order.{≤ℤ-trans, pos-mono}
+use Rattle.integers.proofs.Order.{≤ℤ-trans, pos-mono, ltZ-true}
 use Rattle.integers.proofs.Magnitude.{within}
 use Rattle.rules.specs.declared.Limit.{Limit}
 use Rattle.rules.specs.declared.Limit.the-variants.{Absent, At}
@@ -43,13 +43,12 @@ module _ (rule : Rule) (table : Table) (n : ℕ) (v d : ℤ) where
   unfolding reached
   reached-whole e = rw e
 
-  pub reached-at-most : rule n v d ≤ last-row → Column (table n) → reached rule table n v d ≤ 10000
-  unfolding reached
-  reached-at-most h column = by (ltZ (pos 0) v)
+  pub reached-at-most : (pos 0 <ℤ v → rule n v d ≤ last-row) → Column (table n) → reached rule table n v d ≤ 10000
+  reached-at-most h column = by (ltZ (pos 0) v) refl
     where
-      by : (b : Bool) → cond b (entry table n (rule n v d)) 10000 ≤ 10000
-      by true = entry-at-most column h
-      by false = le-refl 10000
+      by : (b : Bool) → ltZ (pos 0) v ≡ b → reached rule table n v d ≤ 10000
+      by true e = rw (reached-entry e) (entry-at-most column (h (ltZ-true _ _ e)))
+      by false e = rw (reached-whole e) (le-refl 10000)
 
   -- The side is what it reaches, and below zero the rest to 10,000.
   pub side-inside : leZ (pos 0) d ≡ true → side rule table n v d ≡ pos (reached rule table n v d)
@@ -68,23 +67,23 @@ module _ (rule : Rule) (table : Table) (n : ℕ) (v d : ℤ) where
       by true = refl
       by false = refl
 
-module _ (rule : Rule) (table : Table) (rows : (n : ℕ) (v d : ℤ) → rule n v d ≤ last-row) where
-  pub side-in-percent : (n : ℕ) (v d : ℤ) → Column (table n) → InPercent (side rule table n v d)
-  side-in-percent n v d column = by (leZ (pos 0) d) refl
+  pub side-in-percent : (pos 0 <ℤ v → rule n v d ≤ last-row) → Column (table n) → InPercent (side rule table n v d)
+  side-in-percent h column = by (leZ (pos 0) d) refl
     where
       small : reached rule table n v d ≤ 10000
-      small = reached-at-most rule table n v d (rows n v d) column
+      small = reached-at-most h column
 
       by : (b : Bool) → leZ (pos 0) d ≡ b → InPercent (side rule table n v d)
-      by true e = rw (side-inside rule table n v d e) (itself (reached rule table n v d) small)
-      by false e = rw (side-outside rule table n v d e) (rest (reached rule table n v d) small)
+      by true e = rw (side-inside e) (itself (reached rule table n v d) small)
+      by false e = rw (side-outside e) (rest (reached rule table n v d) small)
 
-  pub upper-side-in-percent : (a : Totals) (upper : Limit) → Column (table (a .n)) → InPercent (upper-side rule table a upper)
+module _ (rule : Rule) (table : Table) (a : Totals) (rows : (v d : ℤ) → pos 0 <ℤ v → rule (a .n) v d ≤ last-row) (column : Column (table (a .n))) where
+  pub upper-side-in-percent : (upper : Limit) → InPercent (upper-side rule table a upper)
   unfolding upper-side
-  upper-side-in-percent a Absent column = itself 10000 (le-refl 10000)
-  upper-side-in-percent a (At u) column = side-in-percent (a .n) (spread a) (upper-distance a (u .0)) column
+  upper-side-in-percent Absent = itself 10000 (le-refl 10000)
+  upper-side-in-percent (At u) = side-in-percent rule table (a .n) (spread a) (upper-distance a (u .0)) (rows _ _) column
 
-  pub lower-side-in-percent : (a : Totals) (lower : Limit) → Column (table (a .n)) → InPercent (lower-side rule table a lower)
+  pub lower-side-in-percent : (lower : Limit) → InPercent (lower-side rule table a lower)
   unfolding lower-side
-  lower-side-in-percent a Absent column = itself 10000 (le-refl 10000)
-  lower-side-in-percent a (At l) column = side-in-percent (a .n) (spread a) (lower-distance a (l .0)) column
+  lower-side-in-percent Absent = itself 10000 (le-refl 10000)
+  lower-side-in-percent (At l) = side-in-percent rule table (a .n) (spread a) (lower-distance a (l .0)) (rows _ _) column

@@ -1,6 +1,11 @@
 pub mod Every
 pub mod Column
+pub mod RowRule
 pub mod InPercent
 pub mod Reached
 pub mod Bounds
+pub mod Wider
+pub mod Turned
+pub mod Moved
+pub mod Paid
 pub mod Desk

@@ -7,7 +7,7 @@ use Rattle.rules.specs.Percent.{nearest, upper-side, lower-side, within}
 use Rattle.rules.specs.Entries.{percentages-of}
 use Rattle.laws.specs.InPercent.{InPercent}
 use Rattle.laws.proofs.Table.{table-106-1-column}
-use Rattle.laws.proofs.Row.{row-at-most}
+use Rattle.laws.proofs.Nearest.{nearest-row-rule}
 use Rattle.laws.proofs.Side.{upper-side-in-percent, lower-side-in-percent}
 use Rattle.quality.proofs.percentages.Statement.{statement}
 use Rattle.quality.proofs.percentages.Tie as tie
@@ -25,9 +25,10 @@ within-requires : tie.Need-within-requires
 within-requires c κs =
     let start = c .before .before .before in
     let a = start .args .a in
+    let rows = nearest-row-rule (a .n) .in-table in
     let column = table-106-1-column (a .n) (start .pre .0 .least) (start .pre .0 .few) in (
-      subst⁻¹ InPercent (c .before .upper-side .ensures) (upper-side-in-percent nearest table-106-1 row-at-most a (start .args .upper) column),
-      subst⁻¹ InPercent (c .lower-side .ensures) (lower-side-in-percent nearest table-106-1 row-at-most a (start .args .lower) column),
+      subst⁻¹ InPercent (c .before .upper-side .ensures) (upper-side-in-percent nearest table-106-1 a rows column (start .args .upper)),
+      subst⁻¹ InPercent (c .lower-side .ensures) (lower-side-in-percent nearest table-106-1 a rows column (start .args .lower)),
     )
 
 returns : tie.Need-returns

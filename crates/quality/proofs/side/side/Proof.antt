@@ -9,7 +9,7 @@ use Rattle.rules.specs.Table.{table-106-1}
 use Rattle.rules.specs.Percent.{nearest}
 use Rattle.laws.specs.Reached.{reached}
 use Rattle.laws.proofs.Table.{table-106-1-column}
-use Rattle.laws.proofs.Row.{row-at-most}
+use Rattle.laws.proofs.Nearest.{nearest-row-rule}
 use Rattle.laws.proofs.Side.{reached-at-most, side-inside, side-outside}
 use Rattle.quality.proofs.side.side.Statement.{statement}
 use Rattle.quality.proofs.side.side.Tie as tie
@@ -27,7 +27,7 @@ rest-requires c κs =
     omega (
       arith,
       ap natAbs (value (c .before)),
-      reached-at-most nearest table-106-1 (args .n) (pos (args .v)) (args .d) (row-at-most (args .n) (pos (args .v)) (args .d)) (table-106-1-column (args .n) (s .least) (s .few)),
+      reached-at-most nearest table-106-1 (args .n) (pos (args .v)) (args .d) (nearest-row-rule (args .n) .in-table (pos (args .v)) (args .d)) (table-106-1-column (args .n) (s .least) (s .few)),
     )
 
 returns : tie.Need-returns

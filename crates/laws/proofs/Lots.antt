@@ -1,0 +1,40 @@
+-- The lots that the entries take, a lent list with two limits and a lot in memory: turned or moved they are such lots again.
+use mathlib.Core.Path.{_≡_, refl, ap}
+use mathlib.Core.List.{List, [], _∷_, map}
+use Prim.Native.Nat.{ℕ, zero, suc}
+use native.Mathlib.Omega.{arith}
+use lib.IntN.{ℤ, negℤ, _+ℤ_}
+use lib.ListN.{length, length-map, take}
+use lib.Seq.{length-take-le}
+use Rattle.rules.specs.declared.Thousandths.{Thousandths}
+use Rattle.rules.specs.declared.Limit.{Limit}
+use Rattle.rules.specs.declared.HeldLot.{HeldLot}
+use Rattle.rules.specs.Units.{thousandths}
+use Rattle.rules.specs.Lot.{lot-of, plain, places, lot-in, most}
+use Rattle.laws.specs.Turned.{turned-limit, turned, turned-held}
+use Rattle.laws.specs.Moved.{moved-readings, moved-limit, moved, moved-held, Counted}
+
+-- The first places of a lot in memory after something was done at every place.
+first-places : (f : ℤ → ℤ) (k : ℕ) (xs : List Thousandths) → take k (plain (map (λ (x : Thousandths). thousandths (f (x .0))) xs)) ≡ map f (take k (plain xs))
+first-places f zero xs = refl
+first-places f (suc k) [] = refl
+first-places f (suc k) (x ∷ xs) = ap (λ (ys : List ℤ). f (x .0) ∷ ys) (first-places f k xs)
+
+pub turned-lot-of : (upper lower : Limit) (xs : List ℤ) → lot-of (turned-limit lower) (turned-limit upper) (map negℤ xs) ≡ turned (lot-of upper lower xs)
+turned-lot-of upper lower xs = rw (length-map xs negℤ)
+
+pub turned-lot-in : (held : HeldLot) → lot-in (turned-held held) ≡ turned (lot-in held)
+turned-lot-in held = rw (first-places negℤ (held .count) (held .readings))
+
+pub moved-lot-of : (amount : ℤ) (upper lower : Limit) (xs : List ℤ) → lot-of (moved-limit amount upper) (moved-limit amount lower) (moved-readings amount xs) ≡ moved amount (lot-of upper lower xs)
+moved-lot-of amount upper lower xs = rw (length-map xs (λ (x : ℤ). x +ℤ amount))
+
+pub moved-lot-in : (amount : ℤ) (held : HeldLot) → lot-in (moved-held amount held) ≡ moved amount (lot-in held)
+moved-lot-in amount held = rw (first-places (λ (x : ℤ). x +ℤ amount) (held .count) (held .readings))
+
+-- Their readings are as many as they say, up to what a lot can hold.
+pub lot-of-counted : (upper lower : Limit) (xs : List ℤ) → Counted (lot-of upper lower xs)
+lot-of-counted upper lower xs few = refl
+
+pub lot-in-counted : (held : HeldLot) → length (held .readings) ≡ most → Counted (lot-in held)
+lot-in-counted held e few = length-take-le (held .count) (places held) (rw length-map (omega arith))

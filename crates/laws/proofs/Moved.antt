@@ -1,0 +1,77 @@
+-- A lot moved by one amount, with nothing out of range before or after, has the same answer: the cases that it meets and its percentages
+-- go by differences, which stay.
+use mathlib.Core.Path.{_≡_, refl, sym, _∙_}
+use mathlib.Core.Bool.{Bool, true, false}
+use mathlib.Core.List.{List}
+use lib.IntN.{ℤ, pos, _+ℤ_, _*ℤ_}
+use lib.ListN.{length, length-map}
+use Rattle.integers.proofs.Order.{ltZ-shift}
+use Rattle.rules.specs.declared.Limit.{Limit}
+use Rattle.rules.specs.declared.Limit.the-variants.{Absent, At}
+use Rattle.rules.specs.declared.Mean.{Mean}
+use Rattle.rules.specs.Said.{answers}
+use Rattle.rules.specs.Lot.{Lot}
+use Rattle.rules.specs.Table.{Table}
+use Rattle.rules.specs.Percent.{Rule, totals, upper-side, lower-side}
+use Rattle.rules.specs.Refusals.{count-case, any-out, none, crossed}
+use Rattle.rules.specs.Meets.{readings-meet, evaluation-meets}
+use Rattle.rules.specs.Entries.{mean-says, deviation-says, percentages-of, percentages, evaluated}
+use Rattle.laws.specs.Moved.{moved-readings, moved-limit, moved, InRange, Counted}
+use Rattle.laws.proofs.Ruled.{ruled-met, ruled-answers}
+use Rattle.laws.proofs.Accepted.{counted}
+use Rattle.laws.proofs.MovedTotals.{sum-moves, spread-stays, upper-distance-stays, lower-distance-stays}
+
+-- ---- the cases that are met
+
+none-stays : (amount : ℤ) (upper lower : Limit) → none (moved-limit amount upper) (moved-limit amount lower) ≡ none upper lower
+none-stays amount Absent Absent = refl
+none-stays amount Absent (At l) = refl
+none-stays amount (At u) lower = refl
+
+crossed-stays : (amount : ℤ) (upper lower : Limit) → crossed (moved-limit amount upper) (moved-limit amount lower) ≡ crossed upper lower
+crossed-stays amount Absent lower = refl
+crossed-stays amount (At u) Absent = refl
+crossed-stays amount (At u) (At l) = ltZ-shift (u .0) (l .0) amount
+
+meets-stay : (amount : ℤ) (lot : Lot) → InRange lot → InRange (moved amount lot) → evaluation-meets (moved amount lot) ≡ evaluation-meets lot
+unfolding evaluation-meets
+meets-stay amount lot near near′ = rw (near, near′, none-stays amount (lot .upper) (lot .lower), crossed-stays amount (lot .upper) (lot .lower))
+
+-- ---- the percentages
+
+module _ (rule : Rule) (table : Table) (amount : ℤ) where
+  upper-side-stays : (xs : List ℤ) (upper : Limit) → upper-side rule table (totals (length xs) (moved-readings amount xs)) (moved-limit amount upper) ≡ upper-side rule table (totals (length xs) xs) upper
+  unfolding upper-side
+  upper-side-stays xs Absent = refl
+  upper-side-stays xs (At u) = rw (spread-stays amount xs, upper-distance-stays amount xs (u .0))
+
+  lower-side-stays : (xs : List ℤ) (lower : Limit) → lower-side rule table (totals (length xs) (moved-readings amount xs)) (moved-limit amount lower) ≡ lower-side rule table (totals (length xs) xs) lower
+  unfolding lower-side
+  lower-side-stays xs Absent = refl
+  lower-side-stays xs (At l) = rw (spread-stays amount xs, lower-distance-stays amount xs (l .0))
+
+  percentages-stay : (lot : Lot) → length (lot .readings) ≡ lot .n → percentages rule table (moved amount lot) ≡ percentages rule table lot
+  unfolding percentages-of
+  percentages-stay lot e = rw (← e, upper-side-stays (lot .readings) (lot .upper), lower-side-stays (lot .readings) (lot .lower))
+
+-- ---- the laws
+
+-- Direct evaluation, by any rule for rows and any table: the same answer, or the same refusal. A count that is refused is so whatever
+-- the readings; any other says how many they are.
+pub moved-changes-nothing : (rule : Rule) (table : Table) (amount : ℤ) (lot : Lot) → Counted lot → InRange lot → InRange (moved amount lot) → evaluated rule table (moved amount lot) ≡ evaluated rule table lot
+unfolding evaluated evaluation-meets
+moved-changes-nothing rule table amount lot says near near′ = by (count-case (lot .n) .applies) refl
+  where
+    by : (b : Bool) → count-case (lot .n) .applies ≡ b → evaluated rule table (moved amount lot) ≡ evaluated rule table lot
+    by true e = ruled-met _ _ _ e ∙ sym (ruled-met _ _ _ e)
+    by false e = rw (meets-stay amount lot near near′, percentages-stay rule table amount lot (says (counted (lot .n) e .1)))
+
+-- The deviation too,
+pub moved-deviation : (amount : ℤ) (xs : List ℤ) → any-out xs ≡ false → any-out (moved-readings amount xs) ≡ false → deviation-says (moved-readings amount xs) ≡ deviation-says xs
+unfolding deviation-says readings-meet
+moved-deviation amount xs near near′ = rw (near, near′, length-map, spread-stays amount xs)
+
+-- and the mean's T moves by n times the amount.
+pub moved-mean : (amount : ℤ) (xs : List ℤ) (m m′ : Mean) → mean-says xs ≡ answers m → mean-says (moved-readings amount xs) ≡ answers m′ → (m′ .total .0 ≡ m .total .0 +ℤ pos (m .count) *ℤ amount) × (m′ .count ≡ m .count)
+unfolding mean-says
+moved-mean amount xs m m′ e e′ = rw (← ruled-answers _ _ _ e .1, ← ruled-answers _ _ _ e′ .1) (sum-moves amount xs, length-map xs _)

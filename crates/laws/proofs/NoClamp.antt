@@ -1,0 +1,69 @@
+-- The sides' sum less 100 lies in 0 to 100, with no clamp.
+use mathlib.Core.Path.{_≡_, refl, sym}
+use mathlib.Core.Bool.{false}
+use Prim.Native.Nat.{ℕ}
+use native.Mathlib.Omega.{arith}
+use lib.IntN.{ℤ, pos, _+ℤ_, _-ℤ_, _*ℤ_}
+use lib.Signed.{_≤ℤ_, ≤ℤ-refl}
+use Rattle.integers.proofs.Difference.{var, nat, diff-le, le-diff, le-read, _⊕_, _⊖_, _⊗_}
+use Rattle.integers.proofs.Order.{+ℤ-mono, *ℤ-mono-l, ltZ-false}
+use Rattle.rules.specs.declared.Limit.{Limit}
+use Rattle.rules.specs.declared.Limit.the-variants.{Absent, At}
+use Rattle.rules.specs.declared.Percentages.{Percentages}
+use Rattle.rules.specs.declared.Totals.{Totals}
+use Rattle.rules.specs.Said.{answers}
+use Rattle.rules.specs.Units.{hundred-percent}
+use Rattle.rules.specs.Lot.{Lot}
+use Rattle.rules.specs.Table.{Table}
+use Rattle.rules.specs.Percent.{Rule, totals, spread, upper-distance, lower-distance, upper-side, lower-side, within}
+use Rattle.rules.specs.Refusals.{crossed}
+use Rattle.rules.specs.Entries.{percentages-of, percentages, evaluated}
+use Rattle.laws.specs.Column.{Column}
+use Rattle.laws.specs.RowRule.{RowRule}
+use Rattle.laws.specs.InPercent.{InPercent}
+use Rattle.laws.proofs.Side.{upper-side-in-percent, lower-side-in-percent}
+use Rattle.laws.proofs.Distance.{sides-cover}
+use Rattle.laws.proofs.Evaluated.{Answered, answered}
+
+-- No clamp: PWL is the sum of the sides less 100 percent, whatever the rule, the table, the readings and the limits.
+pub no-clamp : (rule : Rule) (table : Table) (lot : Lot) → percentages rule table lot .pwl .0 ≡ (percentages rule table lot .upper .0 +ℤ percentages rule table lot .lower .0) -ℤ pos 10000
+unfolding percentages-of
+no-clamp rule table lot = refl
+
+-- The distances of two limits that are not crossed come to n·(U − L), which is not negative.
+distances-add-up : (a : Totals) (u l : ℤ) → l ≤ℤ u → pos 0 ≤ℤ (upper-distance a u +ℤ lower-distance a l)
+unfolding upper-distance lower-distance
+distances-add-up a u l h =
+    diff-le (nat 0) (nat (a .n) ⊗ var u ⊖ var (a .t) ⊕ (var (a .t) ⊖ nat (a .n) ⊗ var l))
+    (omega (arith, le-diff (nat (a .n) ⊗ var l) (nat (a .n) ⊗ var u) (*ℤ-mono-l (a .n) h)))
+
+module _ (rule : Rule) (table : Table) (a : Totals) (rows : RowRule rule (a .n)) (column : Column (table (a .n))) where
+  upper-in-percent : (upper : Limit) → InPercent (upper-side rule table a upper)
+  upper-in-percent = upper-side-in-percent rule table a (rows .in-table) column
+
+  lower-in-percent : (lower : Limit) → InPercent (lower-side rule table a lower)
+  lower-in-percent = lower-side-in-percent rule table a (rows .in-table) column
+
+  hundred-or-more : (upper lower : Limit) → crossed upper lower ≡ false → hundred-percent ≤ℤ (upper-side rule table a upper +ℤ lower-side rule table a lower)
+  unfolding upper-side lower-side
+  hundred-or-more Absent lower e = +ℤ-mono (≤ℤ-refl hundred-percent) (lower-in-percent lower .low)
+  hundred-or-more (At u) Absent e = +ℤ-mono (upper-in-percent (At u) .low) (≤ℤ-refl hundred-percent)
+  hundred-or-more (At u) (At l) e =
+      sides-cover rule table (a .n) rows column (spread a) (upper-distance a (u .0)) (lower-distance a (l .0)) (distances-add-up a (u .0) (l .0) (ltZ-false _ _ e))
+
+  sum-in-percent : (upper lower : Limit) → crossed upper lower ≡ false → InPercent (within (upper-side rule table a upper) (lower-side rule table a lower))
+  sum-in-percent upper lower e =
+      let u : ℤ = upper-side rule table a upper in
+      let l : ℤ = lower-side rule table a lower in
+      record {
+        low = diff-le (nat 0) (var u ⊕ var l ⊖ nat 10000) (omega (arith, le-diff (nat 10000) (var u ⊕ var l) (hundred-or-more upper lower e)));
+        high = diff-le (var u ⊕ var l ⊖ nat 10000) (nat 10000) (omega (arith, le-read (upper-in-percent upper .high), le-read (lower-in-percent lower .high)));
+      }
+
+-- Of every lot that is answered, by any rule and column that are what is asked of them.
+pub sides-add-up : (rule : Rule) (table : Table) (lot : Lot) (p : Percentages) → RowRule rule (lot .n) → Column (table (lot .n)) → evaluated rule table lot ≡ answers p → (pos 0 ≤ℤ ((p .upper .0 +ℤ p .lower .0) -ℤ pos 10000)) × (((p .upper .0 +ℤ p .lower .0) -ℤ pos 10000) ≤ℤ pos 10000) × (p .pwl .0 ≡ (p .upper .0 +ℤ p .lower .0) -ℤ pos 10000)
+unfolding percentages-of
+sides-add-up rule table lot p rows column e =
+    let h : Answered rule table lot p = answered rule table lot p e in
+    let r = sum-in-percent rule table (totals (lot .n) (lot .readings)) rows column (lot .upper) (lot .lower) (h .uncrossed) in
+    rw (sym (h .values)) (r .low, r .high, no-clamp rule table lot)

@@ -1,0 +1,64 @@
+-- The sides of one limit add up: where a limit stands on both sides they come to 100 percent, unless all readings are equal.
+use mathlib.Core.Path.{_≡_, refl, ap, _∙_, subst, subst⁻¹}
+use mathlib.Core.Logic.{⊎-elim}
+use Prim.Native.Nat.{ℕ}
+use native.Mathlib.Omega.{arith}
+use lib.IntN.{ℤ, pos, negℤ, _+ℤ_, _-ℤ_, _*ℤ_, +ℤ-comm}
+use lib.Signed.{_≤ℤ_, _<ℤ_}
+use Rattle.integers.proofs.Difference.{var, nat, diff-eq, diff-le, le-diff, arithℤ, ⊝_, _⊕_, _⊖_}
+use Rattle.integers.proofs.Ring.{neg--ℤ}
+use Rattle.integers.proofs.Order.{≤ℤ-total, le-leZ, lt-leZ, lt-ltZ}
+use Rattle.rules.specs.declared.Thousandths.{Thousandths}
+use Rattle.rules.specs.declared.Limit.the-variants.{At}
+use Rattle.rules.specs.declared.Totals.{Totals}
+use Rattle.rules.specs.Units.{hundred-percent}
+use Rattle.rules.specs.Table.{Table, entry}
+use Rattle.rules.specs.Percent.{Rule, spread, upper-distance, lower-distance, side, upper-side, lower-side}
+use Rattle.laws.specs.Column.{Column}
+use Rattle.laws.specs.RowRule.{EvenRule}
+use Rattle.laws.specs.Reached.{reached}
+use Rattle.laws.proofs.Side.{reached-entry, side-inside, side-outside}
+
+module _ (rule : Rule) (table : Table) (n : ℕ) (even : EvenRule rule n) (column : Column (table n)) (v : ℤ) (above : pos 0 <ℤ v) where
+  at : (d : ℤ) → reached rule table n v d ≡ entry table n (rule n v d)
+  at d = reached-entry rule table n v d (lt-ltZ above)
+
+  -- A distance and its opposite reach one entry, and 0 reaches half.
+  opposite : (d : ℤ) → reached rule table n v (negℤ d) ≡ reached rule table n v d
+  opposite d = rw (at d, at (negℤ d)) (ap (entry table n) (even .even v d above))
+
+  half : reached rule table n v (pos 0) ≡ 5000
+  half = at (pos 0) ∙ ap (entry table n) (even .from-row-0 v above) ∙ column .starts
+
+  inside-and-out : (d : ℤ) → d <ℤ pos 0 → side rule table n v d +ℤ side rule table n v (negℤ d) ≡ hundred-percent
+  inside-and-out d out =
+      let i : pos 0 ≤ℤ negℤ d = diff-le (nat 0) (⊝ var d) (omega arithℤ) in
+      rw (side-outside rule table n v d (lt-leZ out), side-inside rule table n v (negℤ d) (le-leZ i), opposite d)
+      (diff-eq (nat 10000 ⊖ nat (reached rule table n v d) ⊕ nat (reached rule table n v d)) (nat 10000) (omega arith))
+
+  at-zero : (d : ℤ) → d ≡ pos 0 → side rule table n v d +ℤ side rule table n v (negℤ d) ≡ hundred-percent
+  at-zero d e =
+      subst⁻¹ (λ (x : ℤ). side rule table n v x +ℤ side rule table n v (negℤ x) ≡ hundred-percent) e
+      (rw (side-inside rule table n v (pos 0) refl) (diff-eq (nat r ⊕ nat r) (nat 10000) (omega (arith, half))))
+    where
+      r : ℕ
+      r = reached rule table n v (pos 0)
+
+  opposite-sides : (d : ℤ) → side rule table n v d +ℤ side rule table n v (negℤ d) ≡ hundred-percent
+  opposite-sides d = ⊎-elim from-inside (inside-and-out d) (≤ℤ-total (pos 0) d)
+    where
+      back : negℤ (negℤ d) ≡ d
+      back = diff-eq (⊝ (⊝ var d)) (var d) (omega arith)
+
+      from-inside : pos 0 ≤ℤ d → side rule table n v d +ℤ side rule table n v (negℤ d) ≡ hundred-percent
+      from-inside i =
+          ⊎-elim (λ j. at-zero d (diff-eq (var d) (nat 0) (omega (arithℤ, le-diff (nat 0) (⊝ var d) j))))
+          (λ out. +ℤ-comm (side rule table n v d) (side rule table n v (negℤ d)) ∙ (rw back at (inside-and-out (negℤ d) out)))
+          (≤ℤ-total (pos 0) (negℤ d))
+
+-- Where the limits are equal and V is above 0, nothing is within them: by a rule that goes by the magnitude of the distance.
+pub one-limit-adds-up : (rule : Rule) (table : Table) (a : Totals) (z : Thousandths) → EvenRule rule (a .n) → Column (table (a .n)) → pos 0 <ℤ spread a → upper-side rule table a (At z) +ℤ lower-side rule table a (At z) ≡ pos 10000
+unfolding upper-side lower-side upper-distance lower-distance
+one-limit-adds-up rule table a z even column above =
+    subst (λ (d : ℤ). side rule table (a .n) (spread a) (upper-distance a (z .0)) +ℤ side rule table (a .n) (spread a) d ≡ pos 10000)
+    (neg--ℤ (pos (a .n) *ℤ z .0) (a .t)) (opposite-sides rule table (a .n) even column (spread a) above (upper-distance a (z .0)))

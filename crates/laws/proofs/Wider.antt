@@ -1,0 +1,56 @@
+-- Wider limits never lower the percentage: V above 0, V = 0 and absent limits together.
+use mathlib.Core.Path.{_≡_, sym}
+use lib.IntN.{ℤ, pos, _-ℤ_}
+use lib.Signed.{_≤ℤ_, ≤ℤ-refl}
+use Rattle.integers.proofs.Order.{+ℤ-mono, -ℤ-mono, *ℤ-mono-l}
+use Rattle.rules.specs.declared.Limit.{Limit}
+use Rattle.rules.specs.declared.Limit.the-variants.{Absent, At}
+use Rattle.rules.specs.declared.Percentages.{Percentages}
+use Rattle.rules.specs.declared.Totals.{Totals}
+use Rattle.rules.specs.Said.{answers}
+use Rattle.rules.specs.Lot.{Lot}
+use Rattle.rules.specs.Table.{Table}
+use Rattle.rules.specs.Percent.{Rule, totals, spread, upper-distance, lower-distance, upper-side, lower-side}
+use Rattle.rules.specs.Entries.{percentages-of, evaluated}
+use Rattle.laws.specs.Column.{Column}
+use Rattle.laws.specs.RowRule.{RowRule}
+use Rattle.laws.specs.Wider.{with-limits, UpperAsWide, LowerAsWide}
+use Rattle.laws.proofs.Side.{upper-side-in-percent, lower-side-in-percent}
+use Rattle.laws.proofs.Distance.{side-never-falls}
+use Rattle.laws.proofs.Evaluated.{answered}
+use Rattle.laws.proofs.NoClamp.{no-clamp}
+
+-- A wider limit is no nearer.
+upper-no-nearer : (a : Totals) (u w : ℤ) → u ≤ℤ w → upper-distance a u ≤ℤ upper-distance a w
+unfolding upper-distance
+upper-no-nearer a u w h = -ℤ-mono (*ℤ-mono-l (a .n) h) (≤ℤ-refl (a .t))
+
+lower-no-nearer : (a : Totals) (l w : ℤ) → w ≤ℤ l → lower-distance a l ≤ℤ lower-distance a w
+unfolding lower-distance
+lower-no-nearer a l w h = -ℤ-mono (≤ℤ-refl (a .t)) (*ℤ-mono-l (a .n) h)
+
+-- Each side by itself, of any n, T and Z.
+module _ (rule : Rule) (table : Table) (a : Totals) (rows : RowRule rule (a .n)) (column : Column (table (a .n))) where
+  upper-not-lower : (upper wide : Limit) → UpperAsWide upper wide → upper-side rule table a upper ≤ℤ upper-side rule table a wide
+  unfolding upper-side
+  upper-not-lower upper Absent h = upper-side-in-percent rule table a (rows .in-table) column upper .high
+  upper-not-lower Absent (At w) h = absurd h
+  upper-not-lower (At u) (At w) h = side-never-falls rule table (a .n) rows column (spread a) _ _ (upper-no-nearer a (u .0) (w .0) h)
+
+  lower-not-lower : (lower wide : Limit) → LowerAsWide lower wide → lower-side rule table a lower ≤ℤ lower-side rule table a wide
+  unfolding lower-side
+  lower-not-lower lower Absent h = lower-side-in-percent rule table a (rows .in-table) column lower .high
+  lower-not-lower Absent (At w) h = absurd h
+  lower-not-lower (At l) (At w) h = side-never-falls rule table (a .n) rows column (spread a) _ _ (lower-no-nearer a (l .0) (w .0) h)
+
+-- The same readings under two pairs of limits that are both answered, the second at least as wide on each side:
+-- each side and PWL are not lower, by any rule and column that are what is asked of them.
+pub wider-is-not-lower : (rule : Rule) (table : Table) (lot : Lot) (upper lower : Limit) (p q : Percentages) → RowRule rule (lot .n) → Column (table (lot .n)) → UpperAsWide (lot .upper) upper → LowerAsWide (lot .lower) lower → evaluated rule table lot ≡ answers p → evaluated rule table (with-limits upper lower lot) ≡ answers q → (p .upper .0 ≤ℤ q .upper .0) × (p .lower .0 ≤ℤ q .lower .0) × (p .pwl .0 ≤ℤ q .pwl .0)
+unfolding percentages-of
+wider-is-not-lower rule table lot upper lower p q rows column wider-above wider-below e f =
+    let wide : Lot = with-limits upper lower lot in
+    let a : Totals = totals (lot .n) (lot .readings) in
+    let u = upper-not-lower rule table a rows column (lot .upper) upper wider-above in
+    let l = lower-not-lower rule table a rows column (lot .lower) lower wider-below in
+    rw (sym (answered rule table lot p e .values), sym (answered rule table wide q f .values))
+    (u, l, rw (no-clamp rule table lot, no-clamp rule table wide) (-ℤ-mono (+ℤ-mono u l) (≤ℤ-refl (pos 10000))))

@@ -1,7 +1,7 @@
 """Wrong rules, planted in one crate, that the laws of another must refuse.
 
 An edit is a file must-fail/LABEL.edit at the root: a comment that says which wrong rule it plants,
-`check: CRATE` that must refuse it, `refused: FILE` in which a law falls, and rt's own lines
+`check: CRATE` that must refuse it, `refused: FILE..` in each of which a law falls, and rt's own lines
 `file:`, `old:`, `new:`, with paths from the root. `python3 tests/planted.py [LABEL..]` tries them.
 """
 import os
@@ -39,8 +39,8 @@ def check(crate, where):
     return done.returncode, done.stdout, log.read_text("utf-8", "replace") if log.exists() else ""
 
 
-def judged(crate, word, places, where):
-    """Why the check of a copy, edited at `places`, is not a law's refusal; empty where it is."""
+def judged(crate, laws, places, where):
+    """Why the check of a copy, edited at `places`, is not a refusal by each of the laws; empty where it is."""
     status, said, log = check(crate, where)
     for other in sorted({place.split("/")[1] for place in places} - {crate}):
         if not re.search(rf"^rt: {other} proved \(", said, re.M):
@@ -52,8 +52,9 @@ def judged(crate, word, places, where):
     if why := not_a_fact(log, places):
         return f"{crate} is not refused for a fact: {why}"
     files = {os.path.relpath(place.split(":")[0], where / "crates" / crate) for place in refusals(log)}
-    if not any(word in Path(file).with_suffix("").parts for file in files):
-        return f"what is refused is in {', '.join(sorted(files))}, and not in {word}"
+    for law in laws:
+        if not any(law in Path(file).with_suffix("").parts for file in files):
+            return f"what is refused is in {', '.join(sorted(files))}, and not in {law}"
     return ""
 
 
@@ -61,7 +62,7 @@ def plant(root, file):
     """Tries one edit: why it is not refused as it must be; empty where it is."""
     comment, words, changes = read_edit(file)
     if not (comment and words.get("check") and words.get("refused")):
-        return "it wants a comment that says what it plants, a line `check: CRATE` and a line `refused: FILE`"
+        return "it wants a comment that says what it plants, a line `check: CRATE` and a line `refused: FILE..`"
     with tempfile.TemporaryDirectory() as folder:
         where = Path(folder).resolve()
         copy(root, where)
@@ -73,7 +74,7 @@ def plant(root, file):
             return "BAD EDIT: it may change only src/ and specs/ of a crate"
         for path, text in texts.items():
             (where / path).write_text(text, "utf-8")
-        return judged(words["check"], words["refused"], places, where)
+        return judged(words["check"], words["refused"].split(), places, where)
 
 
 def main():

@@ -1,17 +1,17 @@
 -- A side's percentage never falls as its distance grows, and two sides whose distances come to 0 or more come to 100 percent or more:
 -- by any rule for rows and any column that are what is asked of them.
-use mathlib.Core.Path.{_≡_, refl, subst}
+use mathlib.Core.Path.{_≡_, refl}
 use mathlib.Core.Bool.{Bool, true, false}
 use mathlib.Core.Logic.{⊎-elim}
 use Prim.Native.Nat.{ℕ, _≤_, zero-le}
-use native.Mathlib.Nat.{le-refl, le-trans}
+use native.Mathlib.Nat.{le-refl}
 use native.Mathlib.Omega.{arith}
 use lib.IntN.{ℤ, pos, negℤ, _+ℤ_, _-ℤ_, +ℤ-comm}
 use lib.Signed.{_≤ℤ_, _<ℤ_, ltZ}
 use Rattle.integers.proofs.Difference.{var, nat, diff-le, le-diff, arithℤ, ⊝_, _⊕_, _⊖_}
 use Rattle.integers.proofs.Order.{≤ℤ-trans, ≤ℤ-total, pos-mono, le-leZ, lt-leZ, ltZ-true}
 use Rattle.rules.specs.Units.{hundred-percent}
-use Rattle.rules.specs.Table.{Table, entry}
+use Rattle.rules.specs.Table.{Table}
 use Rattle.rules.specs.Percent.{Rule, side}
 use Rattle.laws.specs.Column.{Column}
 use Rattle.laws.specs.RowRule.{RowRule}

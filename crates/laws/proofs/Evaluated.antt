@@ -2,10 +2,10 @@
 use mathlib.Core.Path.{_≡_}
 use mathlib.Core.Bool.{false}
 use mathlib.Core.List.{[], _∷_}
-use Prim.Native.Nat.{ℕ, _≤_}
+use Prim.Native.Nat.{_≤_}
 use Rattle.rules.specs.declared.Percentages.{Percentages}
 use Rattle.rules.specs.declared.Limit.{Limit}
-use Rattle.rules.specs.Said.{answers, checked}
+use Rattle.rules.specs.Said.{answers}
 use Rattle.rules.specs.Lot.{Lot, most}
 use Rattle.rules.specs.Table.{Table}
 use Rattle.rules.specs.Percent.{Rule}

@@ -30,3 +30,4 @@ pub mod Lots
 pub mod Deviation
 pub mod Desk
 pub mod Promised
+pub mod PromisedPay

@@ -1,9 +1,8 @@
 -- The sides' sum less 100 lies in 0 to 100, with no clamp.
 use mathlib.Core.Path.{_≡_, refl, sym}
 use mathlib.Core.Bool.{false}
-use Prim.Native.Nat.{ℕ}
 use native.Mathlib.Omega.{arith}
-use lib.IntN.{ℤ, pos, _+ℤ_, _-ℤ_, _*ℤ_}
+use lib.IntN.{ℤ, pos, _+ℤ_, _-ℤ_}
 use lib.Signed.{_≤ℤ_, ≤ℤ-refl}
 use Rattle.integers.proofs.Difference.{var, nat, diff-le, le-diff, le-read, _⊕_, _⊖_, _⊗_}
 use Rattle.integers.proofs.Order.{+ℤ-mono, *ℤ-mono-l, ltZ-false}
@@ -15,7 +14,7 @@ use Rattle.rules.specs.Said.{answers}
 use Rattle.rules.specs.Units.{hundred-percent}
 use Rattle.rules.specs.Lot.{Lot}
 use Rattle.rules.specs.Table.{Table}
-use Rattle.rules.specs.Percent.{Rule, totals, spread, upper-distance, lower-distance, upper-side, lower-side, within}
+use Rattle.rules.specs.Percent.{Rule, totals, spread, upper-distance, lower-distance, upper-side, lower-side}
 use Rattle.rules.specs.Refusals.{crossed}
 use Rattle.rules.specs.Entries.{percentages-of, percentages, evaluated}
 use Rattle.laws.specs.Column.{Column}
@@ -26,7 +25,9 @@ use Rattle.laws.proofs.Distance.{sides-cover}
 use Rattle.laws.proofs.Evaluated.{Answered, answered}
 
 -- No clamp: PWL is the sum of the sides less 100 percent, whatever the rule, the table, the readings and the limits.
-pub no-clamp : (rule : Rule) (table : Table) (lot : Lot) → percentages rule table lot .pwl .0 ≡ (percentages rule table lot .upper .0 +ℤ percentages rule table lot .lower .0) -ℤ pos 10000
+pub no-clamp :
+    (rule : Rule) (table : Table) (lot : Lot) →
+    percentages rule table lot .pwl .0 ≡ (percentages rule table lot .upper .0 +ℤ percentages rule table lot .lower .0) -ℤ pos 10000
 unfolding percentages-of
 no-clamp rule table lot = refl
 
@@ -51,7 +52,7 @@ module _ (rule : Rule) (table : Table) (a : Totals) (rows : RowRule rule (a .n))
   hundred-or-more (At u) (At l) e =
       sides-cover rule table (a .n) rows column (spread a) (upper-distance a (u .0)) (lower-distance a (l .0)) (distances-add-up a (u .0) (l .0) (ltZ-false _ _ e))
 
-  sum-in-percent : (upper lower : Limit) → crossed upper lower ≡ false → InPercent (within (upper-side rule table a upper) (lower-side rule table a lower))
+  sum-in-percent : (upper lower : Limit) → crossed upper lower ≡ false → InPercent ((upper-side rule table a upper +ℤ lower-side rule table a lower) -ℤ pos 10000)
   sum-in-percent upper lower e =
       let u : ℤ = upper-side rule table a upper in
       let l : ℤ = lower-side rule table a lower in
@@ -61,7 +62,11 @@ module _ (rule : Rule) (table : Table) (a : Totals) (rows : RowRule rule (a .n))
       }
 
 -- Of every lot that is answered, by any rule and column that are what is asked of them.
-pub sides-add-up : (rule : Rule) (table : Table) (lot : Lot) (p : Percentages) → RowRule rule (lot .n) → Column (table (lot .n)) → evaluated rule table lot ≡ answers p → (pos 0 ≤ℤ ((p .upper .0 +ℤ p .lower .0) -ℤ pos 10000)) × (((p .upper .0 +ℤ p .lower .0) -ℤ pos 10000) ≤ℤ pos 10000) × (p .pwl .0 ≡ (p .upper .0 +ℤ p .lower .0) -ℤ pos 10000)
+pub sides-add-up :
+    (rule : Rule) (table : Table) (lot : Lot) (p : Percentages) →
+    RowRule rule (lot .n) → Column (table (lot .n)) →
+    evaluated rule table lot ≡ answers p →
+    (pos 0 ≤ℤ ((p .upper .0 +ℤ p .lower .0) -ℤ pos 10000)) × (((p .upper .0 +ℤ p .lower .0) -ℤ pos 10000) ≤ℤ pos 10000) × (p .pwl .0 ≡ (p .upper .0 +ℤ p .lower .0) -ℤ pos 10000)
 unfolding percentages-of
 sides-add-up rule table lot p rows column e =
     let h : Answered rule table lot p = answered rule table lot p e in

@@ -3,7 +3,7 @@ use mathlib.Core.Path.{_≡_, refl, ap, _∙_, subst, subst⁻¹}
 use mathlib.Core.Logic.{⊎-elim}
 use Prim.Native.Nat.{ℕ}
 use native.Mathlib.Omega.{arith}
-use lib.IntN.{ℤ, pos, negℤ, _+ℤ_, _-ℤ_, _*ℤ_, +ℤ-comm}
+use lib.IntN.{ℤ, pos, negℤ, _+ℤ_, _*ℤ_, +ℤ-comm}
 use lib.Signed.{_≤ℤ_, _<ℤ_}
 use Rattle.integers.proofs.Difference.{var, nat, diff-eq, diff-le, le-diff, arithℤ, ⊝_, _⊕_, _⊖_}
 use Rattle.integers.proofs.Ring.{neg--ℤ}
@@ -57,7 +57,11 @@ module _ (rule : Rule) (table : Table) (n : ℕ) (even : EvenRule rule n) (colum
           (≤ℤ-total (pos 0) (negℤ d))
 
 -- Where the limits are equal and V is above 0, nothing is within them: by a rule that goes by the magnitude of the distance.
-pub one-limit-adds-up : (rule : Rule) (table : Table) (a : Totals) (z : Thousandths) → EvenRule rule (a .n) → Column (table (a .n)) → pos 0 <ℤ spread a → upper-side rule table a (At z) +ℤ lower-side rule table a (At z) ≡ pos 10000
+pub one-limit-adds-up :
+    (rule : Rule) (table : Table) (a : Totals) (z : Thousandths) →
+    EvenRule rule (a .n) → Column (table (a .n)) →
+    pos 0 <ℤ spread a →
+    upper-side rule table a (At z) +ℤ lower-side rule table a (At z) ≡ pos 10000
 unfolding upper-side lower-side upper-distance lower-distance
 one-limit-adds-up rule table a z even column above =
     subst (λ (d : ℤ). side rule table (a .n) (spread a) (upper-distance a (z .0)) +ℤ side rule table (a .n) (spread a) d ≡ pos 10000)

@@ -22,7 +22,10 @@ pub factor-is-not-lower : {p q : ℤ} → p ≤ℤ q → factor p ≤ℤ factor 
 unfolding factor
 factor-is-not-lower h = +ℤ-mono (≤ℤ-refl (pos _)) (*ℤ-mono-l _ h)
 
-pub composite-is-not-lower : {vma voids density vma′ voids′ density′ : ℤ} → vma ≤ℤ vma′ → voids ≤ℤ voids′ → density ≤ℤ density′ → composite (weighted vma voids density) ≤ℤ composite (weighted vma′ voids′ density′)
+pub composite-is-not-lower :
+    {vma voids density vma′ voids′ density′ : ℤ} →
+    vma ≤ℤ vma′ → voids ≤ℤ voids′ → density ≤ℤ density′ →
+    composite (weighted vma voids density) ≤ℤ composite (weighted vma′ voids′ density′)
 unfolding weighted composite
 composite-is-not-lower h i j =
     let vma-part = *ℤ-mono-l _ (factor-is-not-lower h) in
@@ -47,7 +50,12 @@ not-refused vma voids density price quantity e =
     let q = neither (percent || _) _ (none-met (pay-case vma voids density price quantity) [] e .0) in
     (not-negative price _ (neither percent _ (q .0) .1), not-negative quantity _ (q .1))
 
-pub pay-is-not-lower : (vma voids density vma′ voids′ density′ price quantity : ℤ) (a b : Payment) → vma ≤ℤ vma′ → voids ≤ℤ voids′ → density ≤ℤ density′ → pay-says vma voids density price quantity ≡ answers a → pay-says vma′ voids′ density′ price quantity ≡ answers b → (a .composite .0 ≤ℤ b .composite .0) × (a .pay .0 ≤ℤ b .pay .0)
+pub pay-is-not-lower :
+    (vma voids density vma′ voids′ density′ price quantity : ℤ) (a b : Payment) →
+    vma ≤ℤ vma′ → voids ≤ℤ voids′ → density ≤ℤ density′ →
+    pay-says vma voids density price quantity ≡ answers a →
+    pay-says vma′ voids′ density′ price quantity ≡ answers b →
+    (a .composite .0 ≤ℤ b .composite .0) × (a .pay .0 ≤ℤ b .pay .0)
 unfolding pay-says payment
 pay-is-not-lower vma voids density vma′ voids′ density′ price quantity a b h i j e f =
     let r = ruled-answers _ (payment vma voids density price quantity) a e in

@@ -1,9 +1,9 @@
--- Demand 3 of what a caller gets: of any answers that the entries' promises allow.
--- A promise is what a contract ensures: of `quality::evaluate` and `quality::evaluate_held` that the answer, as it is read, is
--- `evaluation-says` of the lot; of `readings::mean`, `readings::deviation` and pay in the same way.
+-- Demand 3 of what a caller gets: of any answers that the promises of `quality::evaluate`, `quality::evaluate_held`,
+-- `readings::mean` and `readings::deviation` allow. Each premise below is what their contracts ensure.
 use mathlib.Core.Path.{_≡_, refl, sym, ap, _∙_}
 use mathlib.Core.Bool.{false}
 use mathlib.Core.List.{List}
+use native.Mathlib.Omega.{arith}
 use lib.IntN.{ℤ, pos, _+ℤ_, _-ℤ_, _*ℤ_}
 use lib.Signed.{_≤ℤ_, _<ℤ_}
 use Rattle.rules.specs.declared.Thousandths.{Thousandths}
@@ -13,34 +13,31 @@ use Rattle.rules.specs.declared.Mean.{Mean}
 use Rattle.rules.specs.declared.MeanAnswer.{MeanAnswer}
 use Rattle.rules.specs.declared.DeviationAnswer.{DeviationAnswer}
 use Rattle.rules.specs.declared.Percentages.{Percentages}
+use Rattle.rules.specs.declared.Totals.{Totals}
 use Rattle.rules.specs.declared.Evaluation.{Evaluation}
-use Rattle.rules.specs.declared.Payment.{Payment}
-use Rattle.rules.specs.declared.PayAnswer.{PayAnswer}
 use Rattle.rules.specs.Said.{answers}
 use Rattle.rules.specs.Lot.{Lot}
 use Rattle.rules.specs.Table.{table-106-1}
 use Rattle.rules.specs.Percent.{nearest, totals, spread}
-use Rattle.rules.specs.Pay.{factor}
 use Rattle.rules.specs.Refusals.{any-out}
-use Rattle.rules.specs.Answers.{mean-said, deviation-said, evaluation-said, pay-said}
-use Rattle.rules.specs.Entries.{mean-says, deviation-says, evaluated, evaluation-says}
+use Rattle.rules.specs.Answers.{mean-said, deviation-said, evaluation-said}
+use Rattle.rules.specs.Entries.{mean-says, deviation-says, percentages-of, evaluation-says}
 use Rattle.laws.specs.Column.{Column}
 use Rattle.laws.specs.Wider.{with-limits, UpperAsWide, LowerAsWide}
 use Rattle.laws.specs.Turned.{turned, said-swapped, answer-swapped}
 use Rattle.laws.specs.Moved.{moved, moved-readings, InRange, Counted}
-use Rattle.laws.specs.Paid.{Characteristic, pay-says-of}
 use Rattle.laws.proofs.Table.{table-106-1-column}
 use Rattle.laws.proofs.Answers.{evaluation-injective, deviation-injective}
-use Rattle.laws.proofs.Nearest.{nearest-row-rule}
+use Rattle.laws.proofs.Nearest.{nearest-row-rule, nearest-even-rule}
 use Rattle.laws.proofs.Evaluated.{answered}
-use Rattle.laws.proofs.NoClamp.{sides-add-up}
+use Rattle.laws.proofs.NoClamp.{no-clamp, sides-add-up}
+use Rattle.laws.proofs.OneLimit.{one-limit-adds-up}
 use Rattle.laws.proofs.Wider.{wider-is-not-lower}
 use Rattle.laws.proofs.Turned.{turning-swaps-sides}
 use Rattle.laws.proofs.Moved.{moved-changes-nothing, moved-deviation, moved-mean}
-use Rattle.laws.proofs.WiderPaid.{higher-is-not-paid-less, wider-is-not-paid-less}
 
 -- A lot that is answered has a column in Table 106-1.
-by-table-106-1 : (lot : Lot) (p : Percentages) → evaluation-says lot ≡ answers p → Column (table-106-1 (lot .n))
+pub by-table-106-1 : (lot : Lot) (p : Percentages) → evaluation-says lot ≡ answers p → Column (table-106-1 (lot .n))
 unfolding evaluation-says
 by-table-106-1 lot p e =
     let h = answered nearest table-106-1 lot p e in
@@ -57,29 +54,6 @@ unfolding evaluation-says
 wider-answers lot upper lower p q above below e f =
     wider-is-not-lower nearest table-106-1 lot upper lower p q (nearest-row-rule (lot .n)) (by-table-106-1 lot p (sym e)) above below (sym e) (sym f)
 
--- A percentage that is not lower never lowers the factor (`factor-is-not-lower`), the composite or the pay.
-pub higher-payments :
-    (which : Characteristic) (pwl higher other another price quantity : ℤ) (a b : Payment) →
-    pwl ≤ℤ higher →
-    pay-said (PayAnswer.Answers a) ≡ pay-says-of which pwl other another price quantity →
-    pay-said (PayAnswer.Answers b) ≡ pay-says-of which higher other another price quantity →
-    (a .composite .0 ≤ℤ b .composite .0) × (a .pay .0 ≤ℤ b .pay .0)
-higher-payments which pwl higher x y price quantity a b h e f =
-    higher-is-not-paid-less which pwl higher x y price quantity a b h (sym e) (sym f)
-
--- Wider limits never lower the factor or the pay.
-pub wider-payments :
-    (lot : Lot) (upper lower : Limit) (p q : Percentages) (which : Characteristic) (other another price quantity : ℤ) (a b : Payment) →
-    UpperAsWide (lot .upper) upper → LowerAsWide (lot .lower) lower →
-    evaluation-said (Evaluation.Answers p) ≡ evaluation-says lot →
-    evaluation-said (Evaluation.Answers q) ≡ evaluation-says (with-limits upper lower lot) →
-    pay-said (PayAnswer.Answers a) ≡ pay-says-of which (p .pwl .0) other another price quantity →
-    pay-said (PayAnswer.Answers b) ≡ pay-says-of which (q .pwl .0) other another price quantity →
-    (factor (p .pwl .0) ≤ℤ factor (q .pwl .0)) × (a .composite .0 ≤ℤ b .composite .0) × (a .pay .0 ≤ℤ b .pay .0)
-unfolding evaluation-says
-wider-payments lot upper lower p q which x y price quantity a b above below e f g k =
-    wider-is-not-paid-less nearest table-106-1 lot upper lower p q which x y price quantity a b (nearest-row-rule (lot .n)) (by-table-106-1 lot p (sym e)) above below (sym e) (sym f) (sym g) (sym k)
-
 -- The sides' sum less 100 lies in 0 to 100, with no clamp: it is the PWL.
 pub answer-adds-up :
     (lot : Lot) (p : Percentages) →
@@ -88,6 +62,21 @@ pub answer-adds-up :
 unfolding evaluation-says
 answer-adds-up lot p e =
     sides-add-up nearest table-106-1 lot p (nearest-row-rule (lot .n)) (by-table-106-1 lot p (sym e)) (sym e)
+
+-- And where the limits are equal nothing is within them, unless V is 0.
+pub equal-limits-answer :
+    (lot : Lot) (z : Thousandths) (p : Percentages) →
+    pos 0 <ℤ spread (totals (lot .n) (lot .readings)) →
+    evaluation-said (Evaluation.Answers p) ≡ evaluation-says (with-limits (At z) (At z) lot) →
+    p .pwl .0 ≡ pos 0
+unfolding evaluation-says percentages-of
+equal-limits-answer lot z p above e =
+    let both : Lot = with-limits (At z) (At z) lot in
+    let h = answered nearest table-106-1 both p (sym e) in
+    let a : Totals = totals (lot .n) (lot .readings) in
+    let even = nearest-even-rule (lot .n) (omega (arith, h .least)) in
+    rw (sym (h .values))
+    (no-clamp nearest table-106-1 both ∙ ap (λ (x : ℤ). x -ℤ pos 10000) (one-limit-adds-up nearest table-106-1 a z even (by-table-106-1 both p (sym e)) above))
 
 -- Turning about zero swaps the sides; a refusal stays the same refusal.
 pub turned-answers :

@@ -94,7 +94,9 @@ ruled-swapped cases p = ruled-given cases (swapped p) ∙ by (checked cases) ∙
     by (answers u) = refl
 
 -- Of every lot, whether it is answered or refused, by any rule for rows and any table.
-pub turning-swaps-sides : (rule : Rule) (table : Table) (lot : Lot) → evaluated rule table (turned lot) ≡ said-swapped (evaluated rule table lot)
+pub turning-swaps-sides :
+    (rule : Rule) (table : Table) (lot : Lot) →
+    evaluated rule table (turned lot) ≡ said-swapped (evaluated rule table lot)
 unfolding evaluated
 turning-swaps-sides rule table lot =
     ap₂ (λ (cases : List Case) (p : Percentages). ruled cases p) (meets-turned lot) (percentages-turned rule table lot) ∙ ruled-swapped (evaluation-meets lot) (percentages rule table lot)

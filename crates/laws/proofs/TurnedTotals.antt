@@ -4,7 +4,7 @@ use mathlib.Core.Path.{_≡_, refl, ap₂}
 use mathlib.Core.List.{List, [], _∷_, map}
 use Prim.Native.Nat.{ℕ}
 use native.Mathlib.Omega.{arith}
-use lib.IntN.{ℤ, pos, negℤ, _+ℤ_, _-ℤ_, _*ℤ_}
+use lib.IntN.{ℤ, negℤ, _+ℤ_}
 use Rattle.integers.proofs.Difference.{var, nat, diff-eq, eq-diff, ⊝_, _⊕_, _⊖_, _⊗_}
 use Rattle.integers.proofs.Ring.{neg-*ℤ-neg}
 use Rattle.rules.specs.Percent.{sum, squares, totals, spread, upper-distance, lower-distance}

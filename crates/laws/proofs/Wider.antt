@@ -1,6 +1,6 @@
 -- Wider limits never lower the percentage: V above 0, V = 0 and absent limits together.
 use mathlib.Core.Path.{_≡_, sym}
-use lib.IntN.{ℤ, pos, _-ℤ_}
+use lib.IntN.{ℤ, pos}
 use lib.Signed.{_≤ℤ_, ≤ℤ-refl}
 use Rattle.integers.proofs.Order.{+ℤ-mono, -ℤ-mono, *ℤ-mono-l}
 use Rattle.rules.specs.declared.Limit.{Limit}
@@ -45,7 +45,13 @@ module _ (rule : Rule) (table : Table) (a : Totals) (rows : RowRule rule (a .n))
 
 -- The same readings under two pairs of limits that are both answered, the second at least as wide on each side:
 -- each side and PWL are not lower, by any rule and column that are what is asked of them.
-pub wider-is-not-lower : (rule : Rule) (table : Table) (lot : Lot) (upper lower : Limit) (p q : Percentages) → RowRule rule (lot .n) → Column (table (lot .n)) → UpperAsWide (lot .upper) upper → LowerAsWide (lot .lower) lower → evaluated rule table lot ≡ answers p → evaluated rule table (with-limits upper lower lot) ≡ answers q → (p .upper .0 ≤ℤ q .upper .0) × (p .lower .0 ≤ℤ q .lower .0) × (p .pwl .0 ≤ℤ q .pwl .0)
+pub wider-is-not-lower :
+    (rule : Rule) (table : Table) (lot : Lot) (upper lower : Limit) (p q : Percentages) →
+    RowRule rule (lot .n) → Column (table (lot .n)) →
+    UpperAsWide (lot .upper) upper → LowerAsWide (lot .lower) lower →
+    evaluated rule table lot ≡ answers p →
+    evaluated rule table (with-limits upper lower lot) ≡ answers q →
+    (p .upper .0 ≤ℤ q .upper .0) × (p .lower .0 ≤ℤ q .lower .0) × (p .pwl .0 ≤ℤ q .pwl .0)
 unfolding percentages-of
 wider-is-not-lower rule table lot upper lower p q rows column wider-above wider-below e f =
     let wide : Lot = with-limits upper lower lot in

@@ -33,7 +33,16 @@ higher-is-not-paid-less density pwl higher x y price quantity a b h =
     pay-is-not-lower x y pwl x y higher price quantity a b (≤ℤ-refl x) (≤ℤ-refl y) h
 
 -- The same readings of one characteristic under two pairs of limits, the second at least as wide on each side.
-pub wider-is-not-paid-less : (rule : Rule) (table : Table) (lot : Lot) (upper lower : Limit) (p q : Percentages) (which : Characteristic) (other another price quantity : ℤ) (a b : Payment) → RowRule rule (lot .n) → Column (table (lot .n)) → UpperAsWide (lot .upper) upper → LowerAsWide (lot .lower) lower → evaluated rule table lot ≡ answers p → evaluated rule table (with-limits upper lower lot) ≡ answers q → pay-says-of which (p .pwl .0) other another price quantity ≡ answers a → pay-says-of which (q .pwl .0) other another price quantity ≡ answers b → (factor (p .pwl .0) ≤ℤ factor (q .pwl .0)) × (a .composite .0 ≤ℤ b .composite .0) × (a .pay .0 ≤ℤ b .pay .0)
+pub wider-is-not-paid-less :
+    (rule : Rule) (table : Table) (lot : Lot) (upper lower : Limit) (p q : Percentages) →
+    (which : Characteristic) (other another price quantity : ℤ) (a b : Payment) →
+    RowRule rule (lot .n) → Column (table (lot .n)) →
+    UpperAsWide (lot .upper) upper → LowerAsWide (lot .lower) lower →
+    evaluated rule table lot ≡ answers p →
+    evaluated rule table (with-limits upper lower lot) ≡ answers q →
+    pay-says-of which (p .pwl .0) other another price quantity ≡ answers a →
+    pay-says-of which (q .pwl .0) other another price quantity ≡ answers b →
+    (factor (p .pwl .0) ≤ℤ factor (q .pwl .0)) × (a .composite .0 ≤ℤ b .composite .0) × (a .pay .0 ≤ℤ b .pay .0)
 wider-is-not-paid-less rule table lot upper lower p q which x y price quantity a b rows column above below e f g k =
     let h : p .pwl .0 ≤ℤ q .pwl .0 = wider-is-not-lower rule table lot upper lower p q rows column above below e f .2 in
     let paid = higher-is-not-paid-less which (p .pwl .0) (q .pwl .0) x y price quantity a b h g k in

@@ -142,6 +142,9 @@ class Trial(unittest.TestCase):
     def test_a_law_of_another_file(self):
         self.says("and not in Record", ("refused: Desk", "refused: Record"))
 
+    def test_one_law_of_two(self):
+        self.says("and not in Record", ("refused: Desk", "refused: Desk Record"))
+
     def test_a_crate_that_is_not_there(self):
         self.says("lores is not listed", ("check: laws", "check: lores"))
 

@@ -58,30 +58,30 @@ module _ (rule : Rule) (table : Table) (amount : ℤ) where
 
 -- Direct evaluation, by any rule for rows and any table: the same answer, or the same refusal. A count that is refused is so whatever
 -- the readings; any other says how many they are.
-pub moved-changes-nothing :
+pub moving-changes-nothing :
     (rule : Rule) (table : Table) (amount : ℤ) (lot : Lot) →
     Counted lot → InRange lot → InRange (moved amount lot) →
     evaluated rule table (moved amount lot) ≡ evaluated rule table lot
 unfolding evaluated evaluation-meets
-moved-changes-nothing rule table amount lot says near near′ = by (count-case (lot .n) .applies) refl
+moving-changes-nothing rule table amount lot says near near′ = by (count-case (lot .n) .applies) refl
   where
     by : (b : Bool) → count-case (lot .n) .applies ≡ b → evaluated rule table (moved amount lot) ≡ evaluated rule table lot
     by true e = ruled-met _ _ _ e ∙ sym (ruled-met _ _ _ e)
     by false e = rw (meets-stay amount lot near near′, percentages-stay rule table amount lot (says (counted (lot .n) e .1)))
 
 -- The deviation too,
-pub moved-deviation :
+pub moving-keeps-deviation :
     (amount : ℤ) (xs : List ℤ) →
     any-out xs ≡ false → any-out (moved-readings amount xs) ≡ false →
     deviation-says (moved-readings amount xs) ≡ deviation-says xs
 unfolding deviation-says readings-meet
-moved-deviation amount xs near near′ = rw (near, near′, length-map, spread-stays amount xs)
+moving-keeps-deviation amount xs near near′ = rw (near, near′, length-map, spread-stays amount xs)
 
 -- and the mean's T moves by n times the amount.
-pub moved-mean :
+pub moving-moves-sum :
     (amount : ℤ) (xs : List ℤ) (m m′ : Mean) →
     mean-says xs ≡ answers m →
     mean-says (moved-readings amount xs) ≡ answers m′ →
     (m′ .total .0 ≡ m .total .0 +ℤ pos (m .count) *ℤ amount) × (m′ .count ≡ m .count)
 unfolding mean-says
-moved-mean amount xs m m′ e e′ = rw (← ruled-answers _ _ _ e .1, ← ruled-answers _ _ _ e′ .1) (sum-moves amount xs, length-map xs _)
+moving-moves-sum amount xs m m′ e e′ = rw (← ruled-answers _ _ _ e .1, ← ruled-answers _ _ _ e′ .1) (sum-moves amount xs, length-map xs _)

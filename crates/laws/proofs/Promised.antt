@@ -34,7 +34,7 @@ use Rattle.laws.proofs.NoClamp.{no-clamp, sides-add-up}
 use Rattle.laws.proofs.OneLimit.{one-limit-adds-up}
 use Rattle.laws.proofs.Wider.{wider-is-not-lower}
 use Rattle.laws.proofs.Turned.{turning-swaps-sides}
-use Rattle.laws.proofs.Moved.{moved-changes-nothing, moved-deviation, moved-mean}
+use Rattle.laws.proofs.Moved.{moving-changes-nothing, moving-keeps-deviation, moving-moves-sum}
 
 -- A lot that is answered has a column in Table 106-1.
 pub by-table-106-1 : (lot : Lot) (p : Percentages) → evaluation-says lot ≡ answers p → Column (table-106-1 (lot .n))
@@ -101,7 +101,7 @@ pub moved-answers :
     q ≡ r
 unfolding evaluation-says
 moved-answers amount lot r q says near near′ e f =
-    evaluation-injective q r (f ∙ moved-changes-nothing nearest table-106-1 amount lot says near near′ ∙ sym e)
+    evaluation-injective q r (f ∙ moving-changes-nothing nearest table-106-1 amount lot says near near′ ∙ sym e)
 
 -- not the deviation,
 pub moved-deviations :
@@ -110,7 +110,7 @@ pub moved-deviations :
     deviation-said r ≡ deviation-says xs →
     deviation-said q ≡ deviation-says (moved-readings amount xs) →
     q ≡ r
-moved-deviations amount xs r q near near′ e f = deviation-injective q r (f ∙ moved-deviation amount xs near near′ ∙ sym e)
+moved-deviations amount xs r q near near′ e f = deviation-injective q r (f ∙ moving-keeps-deviation amount xs near near′ ∙ sym e)
 
 -- while T moves by n times the amount.
 pub moved-means :
@@ -118,4 +118,4 @@ pub moved-means :
     mean-said (MeanAnswer.Answers m) ≡ mean-says xs →
     mean-said (MeanAnswer.Answers m′) ≡ mean-says (moved-readings amount xs) →
     (m′ .total .0 ≡ m .total .0 +ℤ pos (m .count) *ℤ amount) × (m′ .count ≡ m .count)
-moved-means amount xs m m′ e f = moved-mean amount xs m m′ (sym e) (sym f)
+moved-means amount xs m m′ e f = moving-moves-sum amount xs m m′ (sym e) (sym f)

@@ -1,4 +1,4 @@
--- What holds of a lot that is not refused.
+-- What holds of readings and of a lot that are not refused.
 use mathlib.Core.Path.{_≡_}
 use mathlib.Core.Bool.{true, false, and-eq-true-iff, _||_}
 use mathlib.Core.List.{List, [], _∷_}
@@ -10,43 +10,69 @@ use lib.ListN.{length}
 use Rattle.rules.specs.declared.Limit.{Limit}
 use Rattle.rules.specs.declared.Limit.the-variants.{Absent}
 use Rattle.rules.specs.declared.Outcome.{Outcome}
-use Rattle.rules.specs.Said.{checked}
+use Rattle.rules.specs.declared.Percentages.{Percentages}
+use Rattle.rules.specs.Said.{answers, checked}
 use Rattle.rules.specs.Lot.{Lot, lot-of, most}
-use Rattle.rules.specs.Refusals.{allowed, count-case, out-of-range, any-out, range-case}
+use Rattle.rules.specs.Table.{Table}
+use Rattle.rules.specs.Percent.{Rule}
+use Rattle.rules.specs.Refusals.{allowed, count-case, out-of-range, any-out, range-case, unlimited-case, crossed, crossed-case}
 use Rattle.rules.specs.Meets.{readings-meet, lot-meets, evaluation-meets}
 use Rattle.rules.specs.Answers.{outcome-said}
+use Rattle.rules.specs.Entries.{percentages, evaluated}
 use Rattle.laws.specs.Bounds.{Accepted}
-use Rattle.laws.proofs.Ruled.{none-met, nothing-refused}
+use Rattle.laws.proofs.Ruled.{none-met, nothing-refused, ruled-answers}
 use Rattle.laws.proofs.Tests.{neither}
 
-pub counted : (n : ℕ) → count-case n .applies ≡ false → (2 ≤ n) × (n ≤ most)
-counted n e =
+-- A count that is not refused is 2 to the most that a lot can hold.
+pub count-allowed : (n : ℕ) → count-case n .applies ≡ false → (2 ≤ n) × (n ≤ most)
+count-allowed n e =
     let h : (leb 2 n ≡ true) × (leb n most ≡ true) = and-eq-true-iff (leb 2 n) (leb n most) .0 (not-false (allowed n) e) in
     (leb-true 2 n (h .0), leb-true n most (h .1))
 
--- The readings, and the limits beside them.
-pub record LotAccepted (upper lower : Limit) (xs : List ℤ) : Type 0 where
-  pub readings : Accepted xs
-  pub upper-near : out-of-range upper ≡ false
-  pub lower-near : out-of-range lower ≡ false
-
-accepted : (upper lower : Limit) (xs : List ℤ) → count-case (length xs) .applies ≡ false → range-case upper lower xs .applies ≡ false → LotAccepted upper lower xs
-accepted upper lower xs count range =
-    let n : (2 ≤ length xs) × (length xs ≤ most) = counted (length xs) count in
-    let r : (out-of-range upper || out-of-range lower ≡ false) × (any-out xs ≡ false) = neither (out-of-range upper || out-of-range lower) (any-out xs) range in
-    let l : (out-of-range upper ≡ false) × (out-of-range lower ≡ false) = neither (out-of-range upper) (out-of-range lower) (r .0) in
-    record { readings = record { least = n .0; few = n .1; near = r .1 }; upper-near = l .0; lower-near = l .1 }
-
--- What the outcomes say, where they refuse nothing.
 pub readings-accepted : (xs : List ℤ) {o : Outcome} → outcome-said o ≡ checked (readings-meet xs) → o ≡ Outcome.Answers → Accepted xs
 unfolding readings-meet
 readings-accepted xs e h =
     let m = none-met (count-case (length xs)) (range-case Absent Absent xs ∷ []) (nothing-refused (readings-meet xs) e h) in
-    accepted Absent Absent xs (m .0) (none-met (range-case Absent Absent xs) [] (m .1) .0) .readings
+    let n = count-allowed (length xs) (m .0) in
+    record { least = n .0; few = n .1; near = none-met (range-case Absent Absent xs) [] (m .1) .0 }
 
-pub lot-accepted : (upper lower : Limit) (xs : List ℤ) {o : Outcome} → outcome-said o ≡ checked (evaluation-meets (lot-of upper lower xs)) → o ≡ Outcome.Answers → LotAccepted upper lower xs
+-- ---- a lot
+
+pub record LotAccepted (lot : Lot) : Type 0 where
+  pub least : 2 ≤ lot .n
+  pub few : lot .n ≤ most
+  pub upper-near : out-of-range (lot .upper) ≡ false
+  pub lower-near : out-of-range (lot .lower) ≡ false
+  pub near : any-out (lot .readings) ≡ false
+  pub uncrossed : crossed (lot .upper) (lot .lower) ≡ false
+
+pub lot-accepted : (lot : Lot) → checked (evaluation-meets lot) ≡ answers tt → LotAccepted lot
 unfolding evaluation-meets
-lot-accepted upper lower xs e h =
-    let lot : Lot = lot-of upper lower xs in
-    let m = none-met (count-case (length xs)) (lot-meets lot) (nothing-refused (evaluation-meets lot) e h) in
-    accepted upper lower xs (m .0) (none-met (range-case upper lower xs) _ (m .1) .0)
+lot-accepted lot e =
+    let upper : Limit = lot .upper in
+    let lower : Limit = lot .lower in
+    let count = none-met (count-case (lot .n)) (lot-meets lot) e in
+    let range = none-met (range-case upper lower (lot .readings)) (unlimited-case upper lower ∷ crossed-case upper lower ∷ []) (count .1) in
+    let limited = none-met (unlimited-case upper lower) (crossed-case upper lower ∷ []) (range .1) in
+    let n = count-allowed (lot .n) (count .0) in
+    let near = neither (out-of-range upper || out-of-range lower) (any-out (lot .readings)) (range .0) in
+    let limits = neither (out-of-range upper) (out-of-range lower) (near .0) in
+    record {
+      least = n .0;
+      few = n .1;
+      upper-near = limits .0;
+      lower-near = limits .1;
+      near = near .1;
+      uncrossed = none-met (crossed-case upper lower) [] (limited .1) .0;
+    }
+
+-- of a lent list with two limits
+pub lent-readings : {upper lower : Limit} {xs : List ℤ} → LotAccepted (lot-of upper lower xs) → Accepted xs
+lent-readings h = record { least = h .least; few = h .few; near = h .near }
+
+-- An evaluation that is answered has the lot's percentages, and its lot is not refused.
+pub answered : (rule : Rule) (table : Table) (lot : Lot) (p : Percentages) → evaluated rule table lot ≡ answers p → LotAccepted lot × (percentages rule table lot ≡ p)
+unfolding evaluated
+answered rule table lot p e =
+    let r = ruled-answers (evaluation-meets lot) (percentages rule table lot) p e in
+    (lot-accepted lot (r .0), r .1)

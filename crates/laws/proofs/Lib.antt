@@ -16,7 +16,6 @@ pub mod Row
 pub mod Nearest
 pub mod Side
 pub mod Distance
-pub mod Evaluated
 pub mod NoClamp
 pub mod OneLimit
 pub mod Wider
@@ -27,7 +26,9 @@ pub mod Moved
 pub mod Paid
 pub mod WiderPaid
 pub mod Lots
+pub mod EvaluationAnswers
+pub mod TurnedAnswers
+pub mod MovedAnswers
+pub mod PayAnswers
 pub mod Deviation
 pub mod Desk
-pub mod Promised
-pub mod PromisedPay

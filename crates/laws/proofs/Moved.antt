@@ -18,7 +18,7 @@ use Rattle.rules.specs.Meets.{readings-meet, evaluation-meets}
 use Rattle.rules.specs.Entries.{mean-says, deviation-says, percentages-of, percentages, evaluated}
 use Rattle.laws.specs.Moved.{moved-readings, moved-limit, moved, InRange, Counted}
 use Rattle.laws.proofs.Ruled.{ruled-met, ruled-answers}
-use Rattle.laws.proofs.Accepted.{counted}
+use Rattle.laws.proofs.Accepted.{count-allowed}
 use Rattle.laws.proofs.MovedTotals.{sum-moves, spread-stays, upper-distance-stays, lower-distance-stays}
 
 -- ---- the cases that are met
@@ -56,8 +56,8 @@ module _ (rule : Rule) (table : Table) (amount : ℤ) where
 
 -- ---- the laws
 
--- Direct evaluation, by any rule for rows and any table: the same answer, or the same refusal. A count that is refused is so whatever
--- the readings; any other says how many they are.
+-- Moving all by one amount changes nothing, where both lots are in range: the same answer or the same refusal, by any rule for rows and
+-- any table. A count that is refused is so whatever the readings; any other says how many they are.
 pub moving-changes-nothing :
     (rule : Rule) (table : Table) (amount : ℤ) (lot : Lot) →
     Counted lot → InRange lot → InRange (moved amount lot) →
@@ -67,9 +67,9 @@ moving-changes-nothing rule table amount lot says near near′ = by (count-case 
   where
     by : (b : Bool) → count-case (lot .n) .applies ≡ b → evaluated rule table (moved amount lot) ≡ evaluated rule table lot
     by true e = ruled-met _ _ _ e ∙ sym (ruled-met _ _ _ e)
-    by false e = rw (meets-stay amount lot near near′, percentages-stay rule table amount lot (says (counted (lot .n) e .1)))
+    by false e = rw (meets-stay amount lot near near′, percentages-stay rule table amount lot (says (count-allowed (lot .n) e .1)))
 
--- The deviation too,
+-- The deviation does not change either, where no reading is out of range.
 pub moving-keeps-deviation :
     (amount : ℤ) (xs : List ℤ) →
     any-out xs ≡ false → any-out (moved-readings amount xs) ≡ false →
@@ -77,7 +77,7 @@ pub moving-keeps-deviation :
 unfolding deviation-says readings-meet
 moving-keeps-deviation amount xs near near′ = rw (near, near′, length-map, spread-stays amount xs)
 
--- and the mean's T moves by n times the amount.
+-- T moves by n times the amount.
 pub moving-moves-sum :
     (amount : ℤ) (xs : List ℤ) (m m′ : Mean) →
     mean-says xs ≡ answers m →

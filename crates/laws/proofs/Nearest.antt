@@ -1,19 +1,17 @@
 -- The nearest rule is what is asked of a rule for rows: the row goes by the magnitude of the distance, and grows with it.
 use mathlib.Core.Path.{_≡_, refl, ap}
-use mathlib.Core.Bool.{_||_}
 use mathlib.Core.Logic.{inl}
 use Prim.Native.Nat.{ℕ, _-_, _*_, _≤_, zero-le}
 use native.Mathlib.Nat.{mul-le-mul-left}
 use native.Mathlib.Omega.{arith}
-use lib.Dec.{eqb}
 use lib.IntN.{ℤ, pos, negℤ, _*ℤ_}
-use lib.Signed.{_<ℤ_, leZ}
+use lib.Signed.{_<ℤ_}
 use Rattle.integers.proofs.Difference.{var, nat, diff-lt, lt-read, _⊗_}
 use Rattle.integers.proofs.Order.{<ℤ→≤ℤ}
 use Rattle.integers.proofs.Magnitude.{natAbs-mono, natAbs-falls, natAbs-neg}
 use Rattle.integers.proofs.Square.{square, square-neg}
 use Rattle.rules.specs.Table.{last-row}
-use Rattle.rules.specs.Percent.{index-squared, midpoint-squared, admits, largest, nearest}
+use Rattle.rules.specs.Percent.{index-squared, admits, largest, nearest}
 use Rattle.laws.specs.RowRule.{RowRule, EvenRule}
 use Rattle.laws.proofs.Row.{row-at-most, row-never-falls, row-exactly-when-enclosing}
 
@@ -30,9 +28,14 @@ index-even : (n : ℕ) (d : ℤ) → index-squared n (negℤ d) ≡ index-square
 unfolding index-squared square
 index-even n d = ap (λ (x : ℤ). pos (1600 * (n - 1)) *ℤ x) (square-neg d)
 
+-- A distance and its opposite admit the same rows, so that their row is one.
+admits-even : (n : ℕ) (v d : ℤ) (k : ℕ) → admits n v (negℤ d) k ≡ admits n v d k
+unfolding admits
+admits-even n v d k = rw (index-even n d)
+
 row-even : (n : ℕ) (v d : ℤ) → nearest n v (negℤ d) ≡ nearest n v d
-unfolding nearest admits
-row-even n v d = ap (λ (i : ℤ). largest (λ (k : ℕ). eqb k 0 || leZ (midpoint-squared n v k) i) last-row) (index-even n d)
+unfolding nearest
+row-even n v d = λ i. largest (λ (k : ℕ). admits-even n v d k i) last-row
 
 pub nearest-even-rule : (n : ℕ) → 1 ≤ n → EvenRule nearest n
 nearest-even-rule n some =

@@ -1,5 +1,5 @@
 -- The sides' sum less 100 lies in 0 to 100, with no clamp.
-use mathlib.Core.Path.{_≡_, refl, sym}
+use mathlib.Core.Path.{_≡_, refl, sym, subst⁻¹}
 use mathlib.Core.Bool.{false}
 use native.Mathlib.Omega.{arith}
 use lib.IntN.{ℤ, pos, _+ℤ_, _-ℤ_}
@@ -20,9 +20,9 @@ use Rattle.rules.specs.Entries.{percentages-of, percentages, evaluated}
 use Rattle.laws.specs.Column.{Column}
 use Rattle.laws.specs.RowRule.{RowRule}
 use Rattle.laws.specs.InPercent.{InPercent}
+use Rattle.laws.proofs.Accepted.{answered}
 use Rattle.laws.proofs.Side.{upper-side-in-percent, lower-side-in-percent}
 use Rattle.laws.proofs.Distance.{sides-cover}
-use Rattle.laws.proofs.Evaluated.{Answered, answered}
 
 -- No clamp: PWL is the sum of the sides less 100 percent, whatever the rule, the table, the readings and the limits.
 pub no-clamp :
@@ -61,14 +61,26 @@ module _ (rule : Rule) (table : Table) (a : Totals) (rows : RowRule rule (a .n))
         high = diff-le (var u ⊕ var l ⊖ nat 10000) (nat 10000) (omega (arith, le-read (upper-in-percent upper .high), le-read (lower-in-percent lower .high)));
       }
 
--- Of every lot that is answered, by any rule and column that are what is asked of them.
+-- The sides' sum less 100 lies in 0 to 100, and is the PWL: of every lot that is answered, by any rule and column that are what is
+-- asked of them.
 pub sides-add-up :
     (rule : Rule) (table : Table) (lot : Lot) (p : Percentages) →
     RowRule rule (lot .n) → Column (table (lot .n)) →
     evaluated rule table lot ≡ answers p →
-    (pos 0 ≤ℤ ((p .upper .0 +ℤ p .lower .0) -ℤ pos 10000)) × (((p .upper .0 +ℤ p .lower .0) -ℤ pos 10000) ≤ℤ pos 10000) × (p .pwl .0 ≡ (p .upper .0 +ℤ p .lower .0) -ℤ pos 10000)
+    (pos 0 ≤ℤ ((p .upper .0 +ℤ p .lower .0) -ℤ pos 10000)) ×
+    (((p .upper .0 +ℤ p .lower .0) -ℤ pos 10000) ≤ℤ pos 10000) ×
+    (p .pwl .0 ≡ (p .upper .0 +ℤ p .lower .0) -ℤ pos 10000)
 unfolding percentages-of
 sides-add-up rule table lot p rows column e =
-    let h : Answered rule table lot p = answered rule table lot p e in
-    let r = sum-in-percent rule table (totals (lot .n) (lot .readings)) rows column (lot .upper) (lot .lower) (h .uncrossed) in
-    rw (sym (h .values)) (r .low, r .high, no-clamp rule table lot)
+    let h = answered rule table lot p e in
+    let r = sum-in-percent rule table (totals (lot .n) (lot .readings)) rows column (lot .upper) (lot .lower) (h .0 .uncrossed) in
+    rw (sym (h .1)) (r .low, r .high, no-clamp rule table lot)
+
+pub pwl-in-percent :
+    (rule : Rule) (table : Table) (lot : Lot) (p : Percentages) →
+    RowRule rule (lot .n) → Column (table (lot .n)) →
+    evaluated rule table lot ≡ answers p →
+    InPercent (p .pwl .0)
+pwl-in-percent rule table lot p rows column e =
+    let h = sides-add-up rule table lot p rows column e in
+    subst⁻¹ InPercent (h .2) (record { low = h .0; high = h .1 })

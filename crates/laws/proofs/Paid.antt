@@ -1,4 +1,4 @@
--- Where no percentage is lower, neither the composite factor nor the pay is lower.
+-- A percentage that is not lower never lowers the factor, the composite or the pay.
 use mathlib.Core.Path.{_≡_}
 use mathlib.Core.Bool.{Bool, false, _||_}
 use mathlib.Core.List.{[]}
@@ -17,11 +17,12 @@ use Rattle.rules.specs.Entries.{pay-says}
 use Rattle.laws.proofs.Tests.{neither}
 use Rattle.laws.proofs.Ruled.{none-met, ruled-answers}
 
--- Whatever the base, the slope and the weights are, since they are natural numbers.
+-- A PWL that is not lower never lowers the factor, whatever the base and the slope are, since they are natural numbers;
 pub factor-is-not-lower : {p q : ℤ} → p ≤ℤ q → factor p ≤ℤ factor q
 unfolding factor
 factor-is-not-lower h = +ℤ-mono (≤ℤ-refl (pos _)) (*ℤ-mono-l _ h)
 
+-- nor do PWLs of which none is lower lower the composite, whatever the weights are, since they are natural numbers too;
 pub composite-is-not-lower :
     {vma voids density vma′ voids′ density′ : ℤ} →
     vma ≤ℤ vma′ → voids ≤ℤ voids′ → density ≤ℤ density′ →
@@ -33,6 +34,7 @@ composite-is-not-lower h i j =
     let density-part = *ℤ-mono-l _ (factor-is-not-lower j) in
     quotZ-mono _ (+ℤ-mono (+ℤ-mono (+ℤ-mono vma-part voids-part) density-part) (≤ℤ-refl _))
 
+-- nor does a composite that is not lower lower the final pay, for a price and a quantity that are not negative.
 pub final-pay-is-not-lower : {price quantity c c′ : ℤ} → pos 0 ≤ℤ price → pos 0 ≤ℤ quantity → c ≤ℤ c′ → final-pay price quantity c ≤ℤ final-pay price quantity c′
 unfolding final-pay
 final-pay-is-not-lower {price = pos p} {quantity = pos q} h k low = quotZ-mono _ (+ℤ-mono (*ℤ-mono-l (p * q) low) (≤ℤ-refl _))
@@ -46,10 +48,11 @@ not-negative z above e = ltZ-false z (pos 0) (neither (ltZ z (pos 0)) above e .0
 not-refused : (vma voids density price quantity : ℤ) → checked (pay-meets vma voids density price quantity) ≡ answers tt → (pos 0 ≤ℤ price) × (pos 0 ≤ℤ quantity)
 unfolding pay-meets
 not-refused vma voids density price quantity e =
-    let percent : Bool = outside hundred-percent vma || outside hundred-percent voids || outside hundred-percent density in
-    let q = neither (percent || _) _ (none-met (pay-case vma voids density price quantity) [] e .0) in
-    (not-negative price _ (neither percent _ (q .0) .1), not-negative quantity _ (q .1))
+    let percentages : Bool = outside hundred-percent vma || outside hundred-percent voids || outside hundred-percent density in
+    let q = neither (percentages || _) _ (none-met (pay-case vma voids density price quantity) [] e .0) in
+    (not-negative price _ (neither percentages _ (q .0) .1), not-negative quantity _ (q .1))
 
+-- Where no PWL is lower, and price and quantity are the same, the composite and the pay are not lower.
 pub pay-is-not-lower :
     (vma voids density vma′ voids′ density′ price quantity : ℤ) (a b : Payment) →
     vma ≤ℤ vma′ → voids ≤ℤ voids′ → density ≤ℤ density′ →

@@ -9,6 +9,7 @@ use Rattle.rules.specs.declared.Refusal.{Refusal}
 use Rattle.rules.specs.Said.{Said, refused, answers, Case, ruled, checked}
 use Rattle.rules.specs.Refusals.{told}
 use Rattle.rules.specs.Answers.{outcome-said}
+use Rattle.rules.specs.Entries.{bare}
 
 pub ruled-none : {A : Type 0} (a : A) → ruled [] a ≡ answers a
 unfolding ruled
@@ -36,6 +37,15 @@ ruled-given (c ∷ cs) a = by (c .applies) (ruled-given cs a)
     by : (b : Bool) → ruled cs a ≡ given a (checked cs) → cond b (refused (c .number)) (ruled cs a) ≡ given a (cond b (refused (c .number)) (checked cs))
     by true later = refl
     by false later = later
+
+-- So without their values two that meet the same cases are alike: both answered, or refused by one number.
+pub ruled-alike : {A : Type 0} (cases others : List Case) (a b : A) → cases ≡ others → bare (ruled cases a) ≡ bare (ruled others b)
+ruled-alike {A} cases others a b e =
+    ap bare (ruled-given cases a) ∙ by a (checked cases) ∙ ap checked e ∙ sym (by b (checked others)) ∙ sym (ap bare (ruled-given others b))
+  where
+    by : (x : A) (s : Said (Unit {0})) → bare (given x s) ≡ s
+    by x (refused k) = refl
+    by x (answers u) = refl
 
 -- What is answered are the values, and then no refusal is given.
 pub ruled-answers : {A : Type 0} (cs : List Case) (a b : A) → ruled cs a ≡ answers b → (checked cs ≡ answers tt) × (a ≡ b)

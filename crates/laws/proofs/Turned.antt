@@ -93,7 +93,7 @@ ruled-swapped cases p = ruled-given cases (swapped p) ∙ by (checked cases) ∙
     by (refused k) = refl
     by (answers u) = refl
 
--- Of every lot, whether it is answered or refused, by any rule for rows and any table.
+-- Turning about zero swaps the sides, the PWL stays and a refusal stays the same refusal: of every lot, by any rule for rows and any table.
 pub turning-swaps-sides :
     (rule : Rule) (table : Table) (lot : Lot) →
     evaluated rule table (turned lot) ≡ said-swapped (evaluated rule table lot)

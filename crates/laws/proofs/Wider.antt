@@ -15,9 +15,9 @@ use Rattle.rules.specs.Entries.{percentages-of, evaluated}
 use Rattle.laws.specs.Column.{Column}
 use Rattle.laws.specs.RowRule.{RowRule}
 use Rattle.laws.specs.Wider.{with-limits, UpperAsWide, LowerAsWide}
+use Rattle.laws.proofs.Accepted.{answered}
 use Rattle.laws.proofs.Side.{upper-side-in-percent, lower-side-in-percent}
 use Rattle.laws.proofs.Distance.{side-never-falls}
-use Rattle.laws.proofs.Evaluated.{answered}
 use Rattle.laws.proofs.NoClamp.{no-clamp}
 
 -- A wider limit is no nearer.
@@ -58,5 +58,5 @@ wider-is-not-lower rule table lot upper lower p q rows column wider-above wider-
     let a : Totals = totals (lot .n) (lot .readings) in
     let u = upper-not-lower rule table a rows column (lot .upper) upper wider-above in
     let l = lower-not-lower rule table a rows column (lot .lower) lower wider-below in
-    rw (sym (answered rule table lot p e .values), sym (answered rule table wide q f .values))
+    rw (sym (answered rule table lot p e .1), sym (answered rule table wide q f .1))
     (u, l, rw (no-clamp rule table lot, no-clamp rule table wide) (-ℤ-mono (+ℤ-mono u l) (≤ℤ-refl (pos 10000))))

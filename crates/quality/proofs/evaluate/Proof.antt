@@ -4,11 +4,12 @@ use borrow.Author.Needs.{needs}
 use Rattle.rules.specs.declared.Totals.{Totals}
 use Rattle.rules.specs.declared.Percentages.{Percentages}
 use Rattle.rules.specs.Said.{Said, answers}
+use Rattle.rules.specs.Lot.{lot-of}
 use Rattle.rules.specs.Table.{table-106-1}
 use Rattle.rules.specs.Percent.{nearest}
 use Rattle.rules.specs.Entries.{percentages-of, evaluated, evaluation-says}
-use Rattle.laws.proofs.Ruled.{outcome-answers, outcome-refused}
-use Rattle.laws.proofs.Accepted.{LotAccepted, lot-accepted}
+use Rattle.laws.proofs.Ruled.{nothing-refused, outcome-answers, outcome-refused}
+use Rattle.laws.proofs.Accepted.{LotAccepted, lot-accepted, lent-readings}
 use Rattle.laws.proofs.Bounds.{totals-bounded}
 use Rattle.quality.proofs.evaluate.Statement.{statement}
 use Rattle.quality.proofs.evaluate.Tie as tie
@@ -16,10 +17,8 @@ use Rattle.quality.proofs.evaluate.Tie as tie
 abbrev answer : Percentages → Said Percentages
 answer p = answers p
 
-accepted : (c : tie.After-enum-told) → LotAccepted (c .before .before .before .args .upper) (c .before .before .before .args .lower) (c .before .before .before .args .readings .now)
-accepted c =
-    let args = c .before .before .before .args in
-    lot-accepted (args .upper) (args .lower) (args .readings .now) (c .before .before .evaluation .ensures) (c .enum-told .given .1)
+accepted : (c : tie.After-enum-told) → LotAccepted (lot-of (c .before .before .before .args .upper) (c .before .before .before .args .lower) (c .before .before .before .args .readings .now))
+accepted c = lot-accepted _ (nothing-refused _ (c .before .before .evaluation .ensures) (c .enum-told .given .1))
 
 evaluation-requires : tie.Need-evaluation-requires
 evaluation-requires c κs = search needs
@@ -31,12 +30,12 @@ enum-told : tie.Need-enum-told
 enum-told c = search needs
 
 totals-requires : tie.Need-totals-requires
-totals-requires c κs = accepted c .readings
+totals-requires c κs = lent-readings (accepted c)
 
 percentages-requires : tie.Need-percentages-requires
 percentages-requires c κs =
     let h = accepted (c .before) in
-    (totals-bounded (h .readings) (c .totals .ensures), h .upper-near, h .lower-near)
+    (totals-bounded (lent-readings h) (c .totals .ensures), h .upper-near, h .lower-near)
 
 returns : tie.Need-returns
 unfolding evaluation-says evaluated

@@ -1,0 +1,69 @@
+-- Wider limits and the sum of the sides, of what a caller gets: of any answers that the promises of `quality::evaluate`, where the lot
+-- is `lot-of` its limits and readings, and of `quality::evaluate_held`, where it is `lot-in` memory, allow.
+use mathlib.Core.Path.{_≡_, sym, ap, _∙_}
+use native.Mathlib.Omega.{arith}
+use lib.IntN.{ℤ, pos, _+ℤ_, _-ℤ_}
+use lib.Signed.{_≤ℤ_, _<ℤ_}
+use Rattle.rules.specs.declared.Thousandths.{Thousandths}
+use Rattle.rules.specs.declared.Limit.{Limit}
+use Rattle.rules.specs.declared.Limit.the-variants.{At}
+use Rattle.rules.specs.declared.Percentages.{Percentages}
+use Rattle.rules.specs.declared.Totals.{Totals}
+use Rattle.rules.specs.declared.Evaluation.{Evaluation}
+use Rattle.rules.specs.Said.{answers}
+use Rattle.rules.specs.Lot.{Lot}
+use Rattle.rules.specs.Table.{table-106-1}
+use Rattle.rules.specs.Percent.{nearest, totals, spread}
+use Rattle.rules.specs.Answers.{evaluation-said}
+use Rattle.rules.specs.Entries.{percentages-of, evaluation-says}
+use Rattle.laws.specs.Column.{Column}
+use Rattle.laws.specs.Wider.{with-limits, UpperAsWide, LowerAsWide}
+use Rattle.laws.proofs.Table.{table-106-1-column}
+use Rattle.laws.proofs.Accepted.{answered}
+use Rattle.laws.proofs.Nearest.{nearest-row-rule, nearest-even-rule}
+use Rattle.laws.proofs.NoClamp.{no-clamp, sides-add-up}
+use Rattle.laws.proofs.OneLimit.{one-limit-adds-up}
+use Rattle.laws.proofs.Wider.{wider-is-not-lower}
+
+pub answered-has-a-column : (lot : Lot) (p : Percentages) → evaluation-says lot ≡ answers p → Column (table-106-1 (lot .n))
+unfolding evaluation-says
+answered-has-a-column lot p e =
+    let h = answered nearest table-106-1 lot p e in
+    table-106-1-column (lot .n) (h .0 .least) (h .0 .few)
+
+-- Wider limits never lower the percentage.
+pub wider-answer-is-not-lower :
+    (lot : Lot) (upper lower : Limit) (p q : Percentages) →
+    UpperAsWide (lot .upper) upper → LowerAsWide (lot .lower) lower →
+    evaluation-said (Evaluation.Answers p) ≡ evaluation-says lot →
+    evaluation-said (Evaluation.Answers q) ≡ evaluation-says (with-limits upper lower lot) →
+    (p .upper .0 ≤ℤ q .upper .0) × (p .lower .0 ≤ℤ q .lower .0) × (p .pwl .0 ≤ℤ q .pwl .0)
+unfolding evaluation-says
+wider-answer-is-not-lower lot upper lower p q above below e f =
+    wider-is-not-lower nearest table-106-1 lot upper lower p q (nearest-row-rule (lot .n)) (answered-has-a-column lot p (sym e)) above below (sym e) (sym f)
+
+-- The sides' sum less 100 lies in 0 to 100, with no clamp: it is the PWL.
+pub answer-adds-up :
+    (lot : Lot) (p : Percentages) →
+    evaluation-said (Evaluation.Answers p) ≡ evaluation-says lot →
+    (pos 0 ≤ℤ ((p .upper .0 +ℤ p .lower .0) -ℤ pos 10000)) ×
+    (((p .upper .0 +ℤ p .lower .0) -ℤ pos 10000) ≤ℤ pos 10000) ×
+    (p .pwl .0 ≡ (p .upper .0 +ℤ p .lower .0) -ℤ pos 10000)
+unfolding evaluation-says
+answer-adds-up lot p e =
+    sides-add-up nearest table-106-1 lot p (nearest-row-rule (lot .n)) (answered-has-a-column lot p (sym e)) (sym e)
+
+-- Two equal limits have nothing within them, unless V is 0.
+pub equal-limits-hold-nothing :
+    (lot : Lot) (z : Thousandths) (p : Percentages) →
+    pos 0 <ℤ spread (totals (lot .n) (lot .readings)) →
+    evaluation-said (Evaluation.Answers p) ≡ evaluation-says (with-limits (At z) (At z) lot) →
+    p .pwl .0 ≡ pos 0
+unfolding evaluation-says percentages-of
+equal-limits-hold-nothing lot z p above e =
+    let both : Lot = with-limits (At z) (At z) lot in
+    let h = answered nearest table-106-1 both p (sym e) in
+    let a : Totals = totals (lot .n) (lot .readings) in
+    let even = nearest-even-rule (lot .n) (omega (arith, h .0 .least)) in
+    rw (sym (h .1))
+    (no-clamp nearest table-106-1 both ∙ ap (λ (x : ℤ). x -ℤ pos 10000) (one-limit-adds-up nearest table-106-1 a z even (answered-has-a-column both p (sym e)) above))

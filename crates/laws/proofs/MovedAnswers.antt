@@ -1,0 +1,70 @@
+-- Moving all by one amount changes nothing but T: of what a caller gets, which is any answers that the promises of `quality::evaluate`,
+-- `quality::evaluate_held`, `readings::deviation` and `readings::mean` allow.
+use mathlib.Core.Path.{_≡_, sym, ap, _∙_, subst}
+use mathlib.Core.Bool.{false}
+use mathlib.Core.List.{List}
+use lib.IntN.{ℤ, pos, _+ℤ_, _*ℤ_}
+use lib.ListN.{length}
+use Rattle.rules.specs.declared.Limit.{Limit}
+use Rattle.rules.specs.declared.HeldLot.{HeldLot}
+use Rattle.rules.specs.declared.Mean.{Mean}
+use Rattle.rules.specs.declared.MeanAnswer.{MeanAnswer}
+use Rattle.rules.specs.declared.DeviationAnswer.{DeviationAnswer}
+use Rattle.rules.specs.declared.Evaluation.{Evaluation}
+use Rattle.rules.specs.Lot.{Lot, lot-of, lot-in, most}
+use Rattle.rules.specs.Table.{table-106-1}
+use Rattle.rules.specs.Percent.{nearest}
+use Rattle.rules.specs.Refusals.{any-out}
+use Rattle.rules.specs.Answers.{mean-said, deviation-said, evaluation-said}
+use Rattle.rules.specs.Entries.{mean-says, deviation-says, evaluation-says}
+use Rattle.laws.specs.Moved.{moved, moved-readings, moved-limit, moved-held, InRange, Counted}
+use Rattle.laws.proofs.Answers.{evaluation-injective, deviation-injective}
+use Rattle.laws.proofs.Moved.{moving-changes-nothing, moving-keeps-deviation, moving-moves-sum}
+use Rattle.laws.proofs.Lots.{moved-lot-of, moved-lot-in, lot-of-counted, lot-in-counted}
+
+of-lots : (amount : ℤ) (lot other : Lot) (r q : Evaluation) → other ≡ moved amount lot → Counted lot → InRange lot → InRange other → evaluation-said r ≡ evaluation-says lot → evaluation-said q ≡ evaluation-says other → q ≡ r
+unfolding evaluation-says
+of-lots amount lot other r q same says near near′ e f =
+    evaluation-injective q r
+    (f ∙ ap evaluation-says same ∙ moving-changes-nothing nearest table-106-1 amount lot says near (subst InRange same near′) ∙ sym e)
+
+-- Readings in a lent list, and two limits: the same answer.
+pub moved-answer-is-the-same :
+    (amount : ℤ) (upper lower : Limit) (xs : List ℤ) (r q : Evaluation) →
+    InRange (lot-of upper lower xs) →
+    InRange (lot-of (moved-limit amount upper) (moved-limit amount lower) (moved-readings amount xs)) →
+    evaluation-said r ≡ evaluation-says (lot-of upper lower xs) →
+    evaluation-said q ≡ evaluation-says (lot-of (moved-limit amount upper) (moved-limit amount lower) (moved-readings amount xs)) →
+    q ≡ r
+moved-answer-is-the-same amount upper lower xs r q =
+    of-lots amount (lot-of upper lower xs) _ r q (moved-lot-of amount upper lower xs) (lot-of-counted upper lower xs)
+
+-- A lot in memory, which has as many places as a lot can hold: the same answer.
+pub moved-held-answer-is-the-same :
+    (amount : ℤ) (held : HeldLot) (r q : Evaluation) →
+    length (held .readings) ≡ most →
+    InRange (lot-in held) →
+    InRange (lot-in (moved-held amount held)) →
+    evaluation-said r ≡ evaluation-says (lot-in held) →
+    evaluation-said q ≡ evaluation-says (lot-in (moved-held amount held)) →
+    q ≡ r
+moved-held-answer-is-the-same amount held r q places =
+    of-lots amount (lot-in held) _ r q (moved-lot-in amount held) (lot-in-counted held places)
+
+-- The deviation is the same too, where no reading is out of range.
+pub moved-deviation-is-the-same :
+    (amount : ℤ) (xs : List ℤ) (r q : DeviationAnswer) →
+    any-out xs ≡ false → any-out (moved-readings amount xs) ≡ false →
+    deviation-said r ≡ deviation-says xs →
+    deviation-said q ≡ deviation-says (moved-readings amount xs) →
+    q ≡ r
+moved-deviation-is-the-same amount xs r q near near′ e f =
+    deviation-injective q r (f ∙ moving-keeps-deviation amount xs near near′ ∙ sym e)
+
+-- T moves by n times the amount.
+pub moved-mean-moves :
+    (amount : ℤ) (xs : List ℤ) (m m′ : Mean) →
+    mean-said (MeanAnswer.Answers m) ≡ mean-says xs →
+    mean-said (MeanAnswer.Answers m′) ≡ mean-says (moved-readings amount xs) →
+    (m′ .total .0 ≡ m .total .0 +ℤ pos (m .count) *ℤ amount) × (m′ .count ≡ m .count)
+moved-mean-moves amount xs m m′ e f = moving-moves-sum amount xs m m′ (sym e) (sym f)

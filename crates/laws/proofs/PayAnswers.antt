@@ -1,0 +1,60 @@
+-- Factor and pay, of what a caller gets: of any answers that the promises of evaluation allow, and of pay, which is to be promised in the
+-- same form, as `pay-said r ≡ pay-says ..`.
+use mathlib.Core.Path.{_≡_, sym, ap, _∙_}
+use lib.IntN.{ℤ}
+use lib.Signed.{_≤ℤ_}
+use Rattle.rules.specs.declared.Limit.{Limit}
+use Rattle.rules.specs.declared.Percentages.{Percentages}
+use Rattle.rules.specs.declared.Evaluation.{Evaluation}
+use Rattle.rules.specs.declared.Payment.{Payment}
+use Rattle.rules.specs.declared.PayAnswer.{PayAnswer}
+use Rattle.rules.specs.Lot.{Lot}
+use Rattle.rules.specs.Table.{table-106-1}
+use Rattle.rules.specs.Percent.{nearest}
+use Rattle.rules.specs.Pay.{factor}
+use Rattle.rules.specs.Answers.{evaluation-said, pay-said}
+use Rattle.rules.specs.Entries.{evaluation-says, bare}
+use Rattle.laws.specs.Wider.{with-limits, UpperAsWide, LowerAsWide}
+use Rattle.laws.specs.Paid.{Characteristic, pay-says-of}
+use Rattle.laws.proofs.Nearest.{nearest-row-rule}
+use Rattle.laws.proofs.EvaluationAnswers.{answered-has-a-column}
+use Rattle.laws.proofs.WiderPaid.{higher-is-not-paid-less, wider-is-not-paid-less, limits-are-paid-alike}
+
+-- With the other two percentages, price and quantity the same, a PWL that is not lower never lowers the composite or the pay.
+pub higher-payment-is-not-lower :
+    (which : Characteristic) (pwl higher other another price quantity : ℤ) (a b : Payment) →
+    pwl ≤ℤ higher →
+    pay-said (PayAnswer.Answers a) ≡ pay-says-of which pwl other another price quantity →
+    pay-said (PayAnswer.Answers b) ≡ pay-says-of which higher other another price quantity →
+    (a .composite .0 ≤ℤ b .composite .0) × (a .pay .0 ≤ℤ b .pay .0)
+higher-payment-is-not-lower which pwl higher x y price quantity a b h e f =
+    higher-is-not-paid-less which pwl higher x y price quantity a b h (sym e) (sym f)
+
+-- Wider limits on one characteristic never lower its factor, the composite or the pay,
+pub wider-payment-is-not-lower :
+    (lot : Lot) (upper lower : Limit) (p q : Percentages) →
+    (which : Characteristic) (other another price quantity : ℤ) (a b : Payment) →
+    UpperAsWide (lot .upper) upper → LowerAsWide (lot .lower) lower →
+    evaluation-said (Evaluation.Answers p) ≡ evaluation-says lot →
+    evaluation-said (Evaluation.Answers q) ≡ evaluation-says (with-limits upper lower lot) →
+    pay-said (PayAnswer.Answers a) ≡ pay-says-of which (p .pwl .0) other another price quantity →
+    pay-said (PayAnswer.Answers b) ≡ pay-says-of which (q .pwl .0) other another price quantity →
+    (factor (p .pwl .0) ≤ℤ factor (q .pwl .0)) × (a .composite .0 ≤ℤ b .composite .0) × (a .pay .0 ≤ℤ b .pay .0)
+unfolding evaluation-says
+wider-payment-is-not-lower lot upper lower p q which x y price quantity a b above below e f g k =
+    wider-is-not-paid-less nearest table-106-1 lot upper lower p q which x y price quantity a b (nearest-row-rule (lot .n)) (answered-has-a-column lot p (sym e)) above below (sym e) (sym f) (sym g) (sym k)
+
+-- and no limits that are answered bring a refusal of pay where others brought none.
+pub limits-are-answered-alike :
+    (lot : Lot) (upper lower : Limit) (p q : Percentages) →
+    (which : Characteristic) (other another price quantity : ℤ) (r s : PayAnswer) →
+    evaluation-said (Evaluation.Answers p) ≡ evaluation-says lot →
+    evaluation-said (Evaluation.Answers q) ≡ evaluation-says (with-limits upper lower lot) →
+    pay-said r ≡ pay-says-of which (p .pwl .0) other another price quantity →
+    pay-said s ≡ pay-says-of which (q .pwl .0) other another price quantity →
+    bare (pay-said r) ≡ bare (pay-said s)
+unfolding evaluation-says
+limits-are-answered-alike lot upper lower p q which x y price quantity r s e f g k =
+    ap bare g
+    ∙ limits-are-paid-alike nearest table-106-1 lot upper lower p q which x y price quantity (nearest-row-rule (lot .n)) (answered-has-a-column lot p (sym e)) (sym e) (sym f)
+    ∙ sym (ap bare k)

@@ -3,7 +3,7 @@ use mathlib.Core.Path.{_≡_, refl, ap, _∙_, subst, subst⁻¹}
 use mathlib.Core.Logic.{⊎-elim}
 use Prim.Native.Nat.{ℕ}
 use native.Mathlib.Omega.{arith}
-use lib.IntN.{ℤ, pos, negℤ, _+ℤ_, _*ℤ_, +ℤ-comm}
+use lib.IntN.{ℤ, pos, negℤ, _+ℤ_, _*ℤ_, negℤ-negℤ, +ℤ-comm}
 use lib.Signed.{_≤ℤ_, _<ℤ_}
 use Rattle.integers.proofs.Difference.{var, nat, diff-eq, diff-le, le-diff, arithℤ, ⊝_, _⊕_, _⊖_}
 use Rattle.integers.proofs.Ring.{neg--ℤ}
@@ -47,13 +47,10 @@ module _ (rule : Rule) (table : Table) (n : ℕ) (even : EvenRule rule n) (colum
   opposite-sides : (d : ℤ) → side rule table n v d +ℤ side rule table n v (negℤ d) ≡ hundred-percent
   opposite-sides d = ⊎-elim from-inside (inside-and-out d) (≤ℤ-total (pos 0) d)
     where
-      back : negℤ (negℤ d) ≡ d
-      back = diff-eq (⊝ (⊝ var d)) (var d) (omega arith)
-
       from-inside : pos 0 ≤ℤ d → side rule table n v d +ℤ side rule table n v (negℤ d) ≡ hundred-percent
       from-inside i =
           ⊎-elim (λ j. at-zero d (diff-eq (var d) (nat 0) (omega (arithℤ, le-diff (nat 0) (⊝ var d) j))))
-          (λ out. +ℤ-comm (side rule table n v d) (side rule table n v (negℤ d)) ∙ (rw back at (inside-and-out (negℤ d) out)))
+          (λ out. +ℤ-comm (side rule table n v d) (side rule table n v (negℤ d)) ∙ (rw (negℤ-negℤ d) at (inside-and-out (negℤ d) out)))
           (≤ℤ-total (pos 0) (negℤ d))
 
 -- Where the limits are equal and V is above 0, nothing is within them: by a rule that goes by the magnitude of the distance.

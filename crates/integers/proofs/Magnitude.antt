@@ -8,6 +8,7 @@ use lib.Signed.{_≤ℤ_, yes-nonNeg, pos-natAbs}
 use mir.Syntax.{Width}
 use mir.Val.{hbits, SFits}
 use Rattle.integers.proofs.Difference.{Diff, up, down, var, nat, eq-diff, diff-le, le-diff, arithℤ, ⊝_, _⊕_, _⊖_}
+use Rattle.integers.proofs.Order.{neg-flips}
 
 -- A magnitude by the parts of its integer, one of which is zero.
 pub natAbs-parts : (z : ℤ) → natAbs z ≡ up z + down z
@@ -63,7 +64,7 @@ natAbs-mono {x = pos a} {y = negsuc b} h k = absurd (k .le)
 natAbs-mono {x = negsuc a} h k = absurd (h .le)
 
 pub natAbs-falls : {x y : ℤ} → y ≤ℤ pos 0 → x ≤ℤ y → natAbs y ≤ natAbs x
-natAbs-falls {x} {y} h k = simp (natAbs-neg x, natAbs-neg y) at (natAbs-mono {x = negℤ y} {y = negℤ x} (diff-le (nat 0) (⊝ var y) (omega arithℤ)) (diff-le (⊝ var y) (⊝ var x) (omega arithℤ)))
+natAbs-falls {x} {y} h k = simp (natAbs-neg x, natAbs-neg y) at (natAbs-mono (neg-flips h) (neg-flips k))
 
 -- An integer that is not negative is its magnitude.
 pub natAbs-pos : {z : ℤ} → pos 0 ≤ℤ z → pos (natAbs z) ≡ z

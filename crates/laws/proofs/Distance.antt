@@ -8,8 +8,8 @@ use native.Mathlib.Nat.{le-refl}
 use native.Mathlib.Omega.{arith}
 use lib.IntN.{ℤ, pos, negℤ, _+ℤ_, _-ℤ_, +ℤ-comm}
 use lib.Signed.{_≤ℤ_, _<ℤ_, ltZ}
-use Rattle.integers.proofs.Difference.{var, nat, diff-le, le-diff, arithℤ, ⊝_, _⊕_, _⊖_}
-use Rattle.integers.proofs.Order.{≤ℤ-trans, ≤ℤ-total, pos-mono, le-leZ, lt-leZ, ltZ-true}
+use Rattle.integers.proofs.Difference.{var, nat, diff-le, le-diff, ⊝_, _⊕_, _⊖_}
+use Rattle.integers.proofs.Order.{≤ℤ-trans, ≤ℤ-total, <ℤ→≤ℤ, neg-flips, pos-mono, le-leZ, lt-leZ, ltZ-true}
 use Rattle.rules.specs.Units.{hundred-percent}
 use Rattle.rules.specs.Table.{Table}
 use Rattle.rules.specs.Percent.{Rule, side}
@@ -69,7 +69,7 @@ module _ (rule : Rule) (table : Table) (n : ℕ) (rows : RowRule rule n) (column
   -- Where one is outside the other is as far inside or farther.
   one-outside : (d e : ℤ) → d <ℤ pos 0 → pos 0 ≤ℤ (d +ℤ e) → hundred-percent ≤ℤ (percentage d +ℤ percentage e)
   one-outside d e o h =
-      let opposite : pos 0 ≤ℤ negℤ d = diff-le (nat 0) (⊝ var d) (omega arithℤ) in
+      let opposite : pos 0 ≤ℤ negℤ d = neg-flips (<ℤ→≤ℤ o) in
       let farther : negℤ d ≤ℤ e = diff-le (⊝ var d) (var e) (omega (arith, le-diff (nat 0) (var d ⊕ var e) h)) in
       let as-far : at d ≤ at (negℤ d) = grows d (negℤ d) (λ above. rows .outside-not-above v d above o) in
       let more : at (negℤ d) ≤ at e = grows (negℤ d) e (λ above. rows .grows-inside v (negℤ d) e above opposite farther) in

@@ -25,6 +25,7 @@ use Rattle.laws.proofs.NoClamp.{no-clamp, sides-add-up}
 use Rattle.laws.proofs.OneLimit.{one-limit-adds-up}
 use Rattle.laws.proofs.Wider.{wider-is-not-lower}
 
+-- A lot that is answered has a column in Table 106-1.
 pub answered-has-a-column : (lot : Lot) (p : Percentages) → evaluation-says lot ≡ answers p → Column (table-106-1 (lot .n))
 unfolding evaluation-says
 answered-has-a-column lot p e =

@@ -28,7 +28,7 @@ of-lots amount lot other r q same says near near′ e f =
     evaluation-injective q r
     (f ∙ ap evaluation-says same ∙ moving-changes-nothing nearest table-106-1 amount lot says near (subst InRange same near′) ∙ sym e)
 
--- Readings in a lent list, and two limits: the same answer.
+-- Moving all by one amount changes nothing in the answer to readings in a lent list, with two limits.
 pub moved-answer-is-the-same :
     (amount : ℤ) (upper lower : Limit) (xs : List ℤ) (r q : Evaluation) →
     InRange (lot-of upper lower xs) →
@@ -39,7 +39,7 @@ pub moved-answer-is-the-same :
 moved-answer-is-the-same amount upper lower xs r q =
     of-lots amount (lot-of upper lower xs) _ r q (moved-lot-of amount upper lower xs) (lot-of-counted upper lower xs)
 
--- A lot in memory, which has as many places as a lot can hold: the same answer.
+-- Moving all by one amount changes nothing in the answer to a lot in memory, which has as many places as a lot can hold.
 pub moved-held-answer-is-the-same :
     (amount : ℤ) (held : HeldLot) (r q : Evaluation) →
     length (held .readings) ≡ most →
@@ -51,7 +51,7 @@ pub moved-held-answer-is-the-same :
 moved-held-answer-is-the-same amount held r q places =
     of-lots amount (lot-in held) _ r q (moved-lot-in amount held) (lot-in-counted held places)
 
--- The deviation is the same too, where no reading is out of range.
+-- Moving all readings by one amount does not change the deviation, where none is out of range.
 pub moved-deviation-is-the-same :
     (amount : ℤ) (xs : List ℤ) (r q : DeviationAnswer) →
     any-out xs ≡ false → any-out (moved-readings amount xs) ≡ false →
@@ -61,7 +61,7 @@ pub moved-deviation-is-the-same :
 moved-deviation-is-the-same amount xs r q near near′ e f =
     deviation-injective q r (f ∙ moving-keeps-deviation amount xs near near′ ∙ sym e)
 
--- T moves by n times the amount.
+-- Moving all readings by one amount moves T by n times the amount.
 pub moved-mean-moves :
     (amount : ℤ) (xs : List ℤ) (m m′ : Mean) →
     mean-said (MeanAnswer.Answers m) ≡ mean-says xs →

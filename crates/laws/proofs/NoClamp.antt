@@ -76,6 +76,7 @@ sides-add-up rule table lot p rows column e =
     let r = sum-in-percent rule table (totals (lot .n) (lot .readings)) rows column (lot .upper) (lot .lower) (h .0 .uncrossed) in
     rw (sym (h .1)) (r .low, r .high, no-clamp rule table lot)
 
+-- So the PWL is a percentage.
 pub pwl-in-percent :
     (rule : Rule) (table : Table) (lot : Lot) (p : Percentages) →
     RowRule rule (lot .n) → Column (table (lot .n)) →

@@ -5,9 +5,9 @@ use Prim.Native.Nat.{ℕ}
 use native.Mathlib.Omega.{arith}
 use lib.IntN.{ℤ, pos, negℤ, _+ℤ_, _*ℤ_, negℤ-negℤ, +ℤ-comm}
 use lib.Signed.{_≤ℤ_, _<ℤ_}
-use Rattle.integers.proofs.Difference.{var, nat, diff-eq, diff-le, le-diff, arithℤ, ⊝_, _⊕_, _⊖_}
+use Rattle.integers.proofs.Difference.{var, nat, diff-eq, le-diff, arithℤ, ⊝_, _⊕_, _⊖_}
 use Rattle.integers.proofs.Ring.{neg--ℤ}
-use Rattle.integers.proofs.Order.{≤ℤ-total, le-leZ, lt-leZ, lt-ltZ}
+use Rattle.integers.proofs.Order.{≤ℤ-total, <ℤ→≤ℤ, neg-flips, le-leZ, lt-leZ, lt-ltZ}
 use Rattle.rules.specs.declared.Thousandths.{Thousandths}
 use Rattle.rules.specs.declared.Limit.the-variants.{At}
 use Rattle.rules.specs.declared.Totals.{Totals}
@@ -32,7 +32,7 @@ module _ (rule : Rule) (table : Table) (n : ℕ) (even : EvenRule rule n) (colum
 
   inside-and-out : (d : ℤ) → d <ℤ pos 0 → side rule table n v d +ℤ side rule table n v (negℤ d) ≡ hundred-percent
   inside-and-out d out =
-      let i : pos 0 ≤ℤ negℤ d = diff-le (nat 0) (⊝ var d) (omega arithℤ) in
+      let i : pos 0 ≤ℤ negℤ d = neg-flips (<ℤ→≤ℤ out) in
       rw (side-outside rule table n v d (lt-leZ out), side-inside rule table n v (negℤ d) (le-leZ i), opposite d)
       (diff-eq (nat 10000 ⊖ nat (reached rule table n v d) ⊕ nat (reached rule table n v d)) (nat 10000) (omega arith))
 

@@ -17,12 +17,12 @@ use Rattle.rules.specs.Entries.{pay-says}
 use Rattle.laws.proofs.Tests.{neither}
 use Rattle.laws.proofs.Ruled.{none-met, ruled-answers}
 
--- A PWL that is not lower never lowers the factor, whatever the base and the slope are, since they are natural numbers;
+-- A PWL that is not lower never lowers the factor, whatever the base and the slope are: they are natural numbers.
 pub factor-is-not-lower : {p q : ℤ} → p ≤ℤ q → factor p ≤ℤ factor q
 unfolding factor
 factor-is-not-lower h = +ℤ-mono (≤ℤ-refl (pos _)) (*ℤ-mono-l _ h)
 
--- nor do PWLs of which none is lower lower the composite, whatever the weights are, since they are natural numbers too;
+-- PWLs of which none is lower never lower the composite, whatever the weights are: they are natural numbers.
 pub composite-is-not-lower :
     {vma voids density vma′ voids′ density′ : ℤ} →
     vma ≤ℤ vma′ → voids ≤ℤ voids′ → density ≤ℤ density′ →
@@ -34,7 +34,7 @@ composite-is-not-lower h i j =
     let density-part = *ℤ-mono-l _ (factor-is-not-lower j) in
     quotZ-mono _ (+ℤ-mono (+ℤ-mono (+ℤ-mono vma-part voids-part) density-part) (≤ℤ-refl _))
 
--- nor does a composite that is not lower lower the final pay, for a price and a quantity that are not negative.
+-- A composite that is not lower never lowers the final pay, for a price and a quantity that are not negative.
 pub final-pay-is-not-lower : {price quantity c c′ : ℤ} → pos 0 ≤ℤ price → pos 0 ≤ℤ quantity → c ≤ℤ c′ → final-pay price quantity c ≤ℤ final-pay price quantity c′
 unfolding final-pay
 final-pay-is-not-lower {price = pos p} {quantity = pos q} h k low = quotZ-mono _ (+ℤ-mono (*ℤ-mono-l (p * q) low) (≤ℤ-refl _))

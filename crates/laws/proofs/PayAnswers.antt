@@ -30,7 +30,7 @@ pub higher-payment-is-not-lower :
 higher-payment-is-not-lower which pwl higher x y price quantity a b h e f =
     higher-is-not-paid-less which pwl higher x y price quantity a b h (sym e) (sym f)
 
--- Wider limits on one characteristic never lower its factor, the composite or the pay,
+-- Wider limits on one characteristic never lower its factor, the composite or the pay.
 pub wider-payment-is-not-lower :
     (lot : Lot) (upper lower : Limit) (p q : Percentages) →
     (which : Characteristic) (other another price quantity : ℤ) (a b : Payment) →
@@ -44,7 +44,7 @@ unfolding evaluation-says
 wider-payment-is-not-lower lot upper lower p q which x y price quantity a b above below e f g k =
     wider-is-not-paid-less nearest table-106-1 lot upper lower p q which x y price quantity a b (nearest-row-rule (lot .n)) (answered-has-a-column lot p (sym e)) above below (sym e) (sym f) (sym g) (sym k)
 
--- and no limits that are answered bring a refusal of pay where others brought none.
+-- No limits that are answered bring a refusal of pay where others brought none.
 pub limits-are-answered-alike :
     (lot : Lot) (upper lower : Limit) (p q : Percentages) →
     (which : Characteristic) (other another price quantity : ℤ) (r s : PayAnswer) →

@@ -26,7 +26,7 @@ of-lots lot other r q same e f =
     by (Evaluation.Answers p) = refl
     by (Evaluation.Refused k) = refl
 
--- Readings in a lent list, and two limits.
+-- Turning about zero swaps the sides of the answer to readings in a lent list, with two limits.
 pub turned-answer-is-swapped :
     (upper lower : Limit) (xs : List ℤ) (r q : Evaluation) →
     evaluation-said r ≡ evaluation-says (lot-of upper lower xs) →
@@ -34,7 +34,7 @@ pub turned-answer-is-swapped :
     q ≡ answer-swapped r
 turned-answer-is-swapped upper lower xs r q = of-lots (lot-of upper lower xs) _ r q (turned-lot-of upper lower xs)
 
--- A lot in memory.
+-- Turning about zero swaps the sides of the answer to a lot in memory.
 pub turned-held-answer-is-swapped :
     (held : HeldLot) (r q : Evaluation) →
     evaluation-said r ≡ evaluation-says (lot-in held) →

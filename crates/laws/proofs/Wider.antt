@@ -20,6 +20,14 @@ use Rattle.laws.proofs.Side.{upper-side-in-percent, lower-side-in-perce
 use Rattle.laws.proofs.Distance.{side-never-falls}
 use Rattle.laws.proofs.NoClamp.{no-clamp}
 
+-- An absent limit is widest, and a limit is at least as wide as itself, so that one side may be widened alone.
+pub absent-is-widest : (limit : Limit) → UpperAsWide limit Absent × LowerAsWide limit Absent
+absent-is-widest limit = (tt, tt)
+
+pub as-wide-as-itself : (limit : Limit) → UpperAsWide limit limit × LowerAsWide limit limit
+as-wide-as-itself Absent = (tt, tt)
+as-wide-as-itself (At z) = (≤ℤ-refl (z .0), ≤ℤ-refl (z .0))
+
 -- A wider limit is no nearer.
 upper-no-nearer : (a : Totals) (u w : ℤ) → u ≤ℤ w → upper-distance a u ≤ℤ upper-distance a w
 unfolding upper-distance
@@ -43,8 +51,8 @@ module _ (rule : Rule) (table : Table) (a : Totals) (rows : RowRule rule (a .n))
   lower-not-lower Absent (At w) h = absurd h
   lower-not-lower (At l) (At w) h = side-never-falls rule table (a .n) rows column (spread a) _ _ (lower-no-nearer a (l .0) (w .0) h)
 
--- The same readings under two pairs of limits that are both answered, the second at least as wide on each side:
--- each side and PWL are not lower, by any rule and column that are what is asked of them.
+-- Wider limits never lower the percentage: the same readings under two pairs of limits that are both answered, the second at least as
+-- wide on each side; neither side is lower, nor is the PWL, by any rule and column that are what is asked of them.
 pub wider-is-not-lower :
     (rule : Rule) (table : Table) (lot : Lot) (upper lower : Limit) (p q : Percentages) →
     RowRule rule (lot .n) → Column (table (lot .n)) →

@@ -30,7 +30,7 @@ use Rattle.laws.proofs.Paid.{factor-is-not-lower, pay-is-not-lower}
 taken : {pwl : ℤ} → InPercent pwl → outside hundred-percent pwl ≡ false
 taken h = rw (le-ltZ (h .low), le-ltZ (h .high))
 
--- With the other two percentages, price and quantity the same, a PWL that is not lower never lowers the composite or the pay;
+-- With the other two percentages, price and quantity the same, a PWL that is not lower never lowers the composite or the pay.
 pub higher-is-not-paid-less :
     (which : Characteristic) (pwl higher other another price quantity : ℤ) (a b : Payment) →
     pwl ≤ℤ higher →
@@ -44,7 +44,7 @@ higher-is-not-paid-less voids pwl higher x y price quantity a b h =
 higher-is-not-paid-less density pwl higher x y price quantity a b h =
     pay-is-not-lower x y pwl x y higher price quantity a b (≤ℤ-refl x) (≤ℤ-refl y) h
 
--- and pay refuses no percentage: it answers for two PWLs alike, or gives the same refusal, which is for another number.
+-- Pay refuses no percentage: it answers for two PWLs alike, or gives the same refusal, which is for another number.
 pub percentages-are-paid-alike :
     (which : Characteristic) (pwl pwl′ other another price quantity : ℤ) →
     InPercent pwl → InPercent pwl′ →
@@ -74,7 +74,7 @@ wider-is-not-paid-less rule table lot upper lower p q which x y price quantity a
     let paid = higher-is-not-paid-less which (p .pwl .0) (q .pwl .0) x y price quantity a b h g k in
     (factor-is-not-lower h, paid .0, paid .1)
 
--- Nor do any limits that are answered bring a refusal of pay where others brought none.
+-- No limits that are answered bring a refusal of pay where others brought none.
 pub limits-are-paid-alike :
     (rule : Rule) (table : Table) (lot : Lot) (upper lower : Limit) (p q : Percentages) →
     (which : Characteristic) (other another price quantity : ℤ) →

@@ -1,12 +1,13 @@
--- The whole part of a quotient, cut toward zero, keeps the order.
+-- The whole part of a quotient, cut toward zero, keeps the order, and its magnitude is not above that of what is divided.
 use Prim.Native.Nat.{ℕ, zero, suc, _/_, _≤_, zero-le, suc-le-suc}
-use native.Mathlib.Nat.{mul-le-mul-right, div-zero}
+use native.Mathlib.Nat.{mul-le-mul-right, div-zero, div-le-self}
 use native.Mathlib.Omega.{arith}
 use lib.Ieee.Nearest.{div-mono}
-use lib.IntN.{ℤ, pos, negsuc}
+use lib.IntN.{ℤ, pos, negsuc, natAbs}
 use lib.Signed.{_≤ℤ_, quotZ}
 use Rattle.integers.proofs.Difference.{nat, diff-le, arithℤ, ⊝_}
 use Rattle.integers.proofs.Order.{neg-flips, pos-mono}
+use Rattle.integers.proofs.Magnitude.{natAbs-neg}
 
 -- Of natural numbers; a quotient by 0 is 0.
 quotients : (d : ℕ) {a b : ℕ} → a ≤ b → a / d ≤ b / d
@@ -18,3 +19,7 @@ quotZ-mono d {x = pos a} {y = pos b} h = pos-mono (quotients d (omega arithℤ))
 quotZ-mono d {x = pos a} {y = negsuc b} h = absurd (h .le)
 quotZ-mono d {x = negsuc a} {y = pos b} h = diff-le (⊝ nat (suc a / d)) (nat (b / d)) (omega arith)
 quotZ-mono d {x = negsuc a} {y = negsuc b} h = neg-flips (pos-mono (quotients d (omega arithℤ)))
+
+pub natAbs-quotZ : (d : ℕ) (x : ℤ) → natAbs (quotZ x (pos d)) ≤ natAbs x
+natAbs-quotZ d (pos a) = div-le-self a d
+natAbs-quotZ d (negsuc a) = rw (natAbs-neg (pos (suc a / d))) (div-le-self (suc a) d)

@@ -6,11 +6,13 @@ use Rattle.rules.specs.declared.Outcome.{Outcome}
 use Rattle.rules.specs.declared.MeanAnswer.{MeanAnswer}
 use Rattle.rules.specs.declared.DeviationAnswer.{DeviationAnswer}
 use Rattle.rules.specs.declared.Evaluation.{Evaluation}
+use Rattle.rules.specs.declared.PayAnswer.{PayAnswer}
+use Rattle.rules.specs.declared.MixtureAnswer.{MixtureAnswer}
 use Rattle.rules.specs.Said.{Case, checked}
 use Rattle.rules.specs.Lot.{Lot}
-use Rattle.rules.specs.Answers.{outcome-said, mean-said, deviation-said, evaluation-said}
-use Rattle.rules.specs.Entries.{mean-says, deviation-says, evaluation-says}
-use Rattle.laws.proofs.Answers.{outcome-injective, mean-injective, deviation-injective, evaluation-injective}
+use Rattle.rules.specs.Answers.{outcome-said, mean-said, deviation-said, evaluation-said, pay-said, mixture-said}
+use Rattle.rules.specs.Entries.{mean-says, deviation-says, evaluation-says, pay-says, mixture-says}
+use Rattle.laws.proofs.Answers.{outcome-injective, mean-injective, deviation-injective, evaluation-injective, pay-injective, mixture-injective}
 
 pub outcome-determined : (cases : List Case) (r q : Outcome) → outcome-said r ≡ checked cases → outcome-said q ≡ checked cases → r ≡ q
 outcome-determined cases r q e f = outcome-injective r q (e ∙ sym f)
@@ -24,3 +26,9 @@ deviation-determined xs r q e f = deviation-injective r q (e ∙ sym f)
 -- of a lent list of readings with two limits, and of a lot in memory
 pub evaluation-determined : (lot : Lot) (r q : Evaluation) → evaluation-said r ≡ evaluation-says lot → evaluation-said q ≡ evaluation-says lot → r ≡ q
 evaluation-determined lot r q e f = evaluation-injective r q (e ∙ sym f)
+
+pub pay-determined : (vma voids density price quantity : ℤ) (r q : PayAnswer) → pay-said r ≡ pay-says vma voids density price quantity → pay-said q ≡ pay-says vma voids density price quantity → r ≡ q
+pay-determined vma voids density price quantity r q e f = pay-injective r q (e ∙ sym f)
+
+pub mixture-determined : (mixture minimum target : ℤ) (r q : MixtureAnswer) → mixture-said r ≡ mixture-says mixture minimum target → mixture-said q ≡ mixture-says mixture minimum target → r ≡ q
+mixture-determined mixture minimum target r q e f = mixture-injective r q (e ∙ sym f)

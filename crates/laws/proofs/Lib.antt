@@ -4,6 +4,7 @@ pub mod Search
 pub mod Table
 pub mod Refusals
 pub mod Tests
+pub mod Between
 pub mod Ruled
 pub mod Lowest
 pub mod Answers
@@ -23,7 +24,13 @@ pub mod TurnedTotals
 pub mod Turned
 pub mod MovedTotals
 pub mod Moved
+pub mod Payable
 pub mod Paid
+pub mod Composite
+pub mod Published
+pub mod HalfUp
+pub mod Settled
+pub mod Taken
 pub mod WiderPaid
 pub mod Lots
 pub mod EvaluationAnswers

@@ -1,5 +1,4 @@
--- Factor and pay, of what a caller gets: of any answers that the promises of evaluation allow, and of pay, which is to be promised in the
--- same form, as `pay-said r ≡ pay-says ..`.
+-- Factor and pay, of what a caller gets: of any answers that the promises of evaluation and of pay allow.
 use mathlib.Core.Path.{_≡_, sym, ap, _∙_}
 use lib.IntN.{ℤ}
 use lib.Signed.{_≤ℤ_}

@@ -1,14 +1,13 @@
 -- A side's percentage lies in 0 to 10,000, by any rule for rows and any column.
 use mathlib.Core.Path.{_≡_, refl}
 use mathlib.Core.Bool.{Bool, true, false, cond}
-use lib.IntN.{ℤ, pos, natAbs, _-ℤ_}
+use lib.IntN.{ℤ, pos, _-ℤ_}
 use lib.Signed.{_<ℤ_, leZ, ltZ}
 use Prim.Native.Nat.{ℕ, _≤_, zero-le}
 use native.Mathlib.Nat.{le-refl}
 use native.Mathlib.Omega.{arith}
-use Rattle.integers.proofs.Difference.{nat, diff-le, ⊝_, _⊖_}
-use Rattle.integers.proofs.Order.{≤ℤ-trans, pos-mono, ltZ-true}
-use Rattle.integers.proofs.Magnitude.{within}
+use Rattle.integers.proofs.Difference.{nat, diff-le, _⊖_}
+use Rattle.integers.proofs.Order.{pos-mono, ltZ-true}
 use Rattle.rules.specs.declared.Limit.{Limit}
 use Rattle.rules.specs.declared.Limit.the-variants.{Absent, At}
 use Rattle.rules.specs.declared.Totals.{Totals}
@@ -30,9 +29,6 @@ rest e h =
       low = diff-le (nat 0) (nat 10000 ⊖ nat e) (omega arith);
       high = diff-le (nat 10000 ⊖ nat e) (nat 10000) (omega arith);
     }
-
-pub percent-magnitude : {z : ℤ} → InPercent z → natAbs z ≤ 10000
-percent-magnitude h = within (≤ℤ-trans (diff-le (⊝ nat 10000) (nat 0) (omega arith)) (h .low)) (h .high)
 
 module _ (rule : Rule) (table : Table) (n : ℕ) (v d : ℤ) where
   pub reached-entry : ltZ (pos 0) v ≡ true → reached rule table n v d ≡ entry table n (rule n v d)

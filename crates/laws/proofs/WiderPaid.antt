@@ -1,19 +1,15 @@
 -- Wider limits never lower the factor or the pay: their PWL is not lower, and what is paid grows with it.
 use mathlib.Core.Path.{_≡_}
-use mathlib.Core.Bool.{false}
 use lib.IntN.{ℤ}
 use lib.Signed.{_≤ℤ_, ≤ℤ-refl}
-use Rattle.integers.proofs.Order.{le-ltZ}
 use Rattle.rules.specs.declared.Limit.{Limit}
 use Rattle.rules.specs.declared.Percentages.{Percentages}
 use Rattle.rules.specs.declared.Payment.{Payment}
-use Rattle.rules.specs.Units.{hundred-percent}
 use Rattle.rules.specs.Said.{answers}
 use Rattle.rules.specs.Lot.{Lot}
 use Rattle.rules.specs.Table.{Table}
 use Rattle.rules.specs.Percent.{Rule}
 use Rattle.rules.specs.Pay.{factor}
-use Rattle.rules.specs.Refusals.{outside}
 use Rattle.rules.specs.Meets.{pay-meets}
 use Rattle.rules.specs.Entries.{evaluated, bare, pay-says}
 use Rattle.laws.specs.Column.{Column}
@@ -21,14 +17,11 @@ use Rattle.laws.specs.RowRule.{RowRule}
 use Rattle.laws.specs.InPercent.{InPercent}
 use Rattle.laws.specs.Wider.{with-limits, UpperAsWide, LowerAsWide}
 use Rattle.laws.specs.Paid.{Characteristic, vma, voids, density, pay-says-of}
+use Rattle.laws.proofs.Between.{taken}
 use Rattle.laws.proofs.Ruled.{ruled-alike}
 use Rattle.laws.proofs.NoClamp.{pwl-in-percent}
 use Rattle.laws.proofs.Wider.{wider-is-not-lower}
 use Rattle.laws.proofs.Paid.{factor-is-not-lower, pay-is-not-lower}
-
--- A percentage is no number that pay refuses.
-taken : {pwl : ℤ} → InPercent pwl → outside hundred-percent pwl ≡ false
-taken h = rw (le-ltZ (h .low), le-ltZ (h .high))
 
 -- With the other two percentages, price and quantity the same, a PWL that is not lower never lowers the composite or the pay.
 pub higher-is-not-paid-less :

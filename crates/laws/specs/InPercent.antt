@@ -1,8 +1,7 @@
 -- A percentage in hundredths: from 0 to 10,000.
 use lib.IntN.{ℤ, pos}
-use lib.Signed.{_≤ℤ_}
 use Rattle.rules.specs.Units.{hundred-percent}
+use Rattle.laws.specs.Between.{Between}
 
-pub record InPercent (z : ℤ) : Type 0 where
-  pub low : pos 0 ≤ℤ z
-  pub high : z ≤ℤ hundred-percent
+abbrev pub InPercent : ℤ → Type 0
+InPercent z = Between (pos 0) hundred-percent z

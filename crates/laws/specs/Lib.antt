@@ -1,6 +1,7 @@
 pub mod Every
 pub mod Column
 pub mod RowRule
+pub mod Between
 pub mod InPercent
 pub mod Reached
 pub mod Bounds
@@ -8,4 +9,8 @@ pub mod Wider
 pub mod Turned
 pub mod Moved
 pub mod Paid
+pub mod Payable
+pub mod Published
+pub mod Settled
+pub mod Taken
 pub mod Desk

@@ -1,4 +1,8 @@
 // The refusal table of document 01, as tests: what an entry does not answer, and by which refusal.
+use rules::Cents;
+use rules::HUNDRED_PERCENT;
+use rules::HundredthTons;
+use rules::Hundredths;
 use rules::Limit;
 use rules::MOST;
 use rules::Outcome;
@@ -7,8 +11,8 @@ ghost use mathlib.Core.Path.{_≡_};
 ghost use Rattle.rules.specs.Units.{in-range};
 ghost use Rattle.rules.specs.Said.{checked};
 ghost use Rattle.rules.specs.Lot.{lot-of};
-ghost use Rattle.rules.specs.Refusals.{allowed, out-of-range, any-out, range-case, none, crossed};
-ghost use Rattle.rules.specs.Meets.{readings-meet, lot-meets, evaluation-meets};
+ghost use Rattle.rules.specs.Refusals.{allowed, out-of-range, any-out, range-case, none, crossed, outside, pay-case};
+ghost use Rattle.rules.specs.Meets.{readings-meet, lot-meets, evaluation-meets, pay-meets};
 ghost use Rattle.rules.specs.Answers.{outcome-said};
 
 fn allowed(n: usize) -> bool
@@ -17,7 +21,8 @@ fn allowed(n: usize) -> bool
     (2 <= n) & (n <= MOST)
 }
 
-fn in_range(z: i32) -> bool
+// A reading or a limit: from −500,000 to 500,000 thousandths.
+pub fn in_range(z: i64) -> bool
     ensures { λ r. ⌜ r ≡ in-range z ⌝ }
 {
     (-500000 <= z) & (z <= 500000)
@@ -30,7 +35,7 @@ fn any_out(readings: &[i32]) -> bool
     let mut i = readings.len();
     while 0 < i {
         i -= 1;
-        out = !in_range(readings[i]) | out;
+        out = !in_range(readings[i] as i64) | out;
     }
     out
 }
@@ -40,7 +45,7 @@ fn out_of_range(limit: Limit) -> bool
 {
     match limit {
         Limit::Absent => false,
-        Limit::At(z) => !in_range(z.0),
+        Limit::At(z) => !in_range(z.0 as i64),
     }
 }
 
@@ -111,5 +116,46 @@ pub fn evaluation(readings: &[i32], upper: Limit, lower: Limit) -> Outcome
         lot(readings, upper, lower)
     } else {
         Outcome::Refused(Refusal::Count)
+    }
+}
+
+// Below 0 or above the greatest number that is taken.
+pub fn outside(greatest: i64, z: i64) -> bool
+    ensures { λ r. ⌜ r ≡ outside greatest z ⌝ }
+{
+    (z < 0) | (greatest < z)
+}
+
+// A number below 0, a PWL above 10,000, price above 10,000,000 or quantity above 100,000,000.
+fn unpayable(
+    vma: Hundredths,
+    voids: Hundredths,
+    density: Hundredths,
+    price: Cents,
+    quantity: HundredthTons,
+) -> bool
+    ensures { λ r. ⌜ r ≡ pay-case (vma .0) (voids .0) (density .0) (price .0) (quantity .0) .applies ⌝ }
+{
+    outside(HUNDRED_PERCENT, vma.0)
+        | outside(HUNDRED_PERCENT, voids.0)
+        | outside(HUNDRED_PERCENT, density.0)
+        | outside(10000000, price.0)
+        | outside(100000000, quantity.0)
+}
+
+// Pay: 9.
+pub fn pay(
+    vma: Hundredths,
+    voids: Hundredths,
+    density: Hundredths,
+    price: Cents,
+    quantity: HundredthTons,
+) -> Outcome
+    ensures { λ r. ⌜ outcome-said r ≡ checked (pay-meets (vma .0) (voids .0) (density .0) (price .0) (quantity .0)) ⌝ }
+{
+    if unpayable(vma, voids, density, price, quantity) {
+        Outcome::Refused(Refusal::Number)
+    } else {
+        Outcome::Answers
     }
 }

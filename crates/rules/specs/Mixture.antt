@@ -2,13 +2,10 @@
 use mathlib.Core.List.{List, [], _∷_}
 use lib.IntN.{ℤ, pos, natAbs, _+ℤ_, _-ℤ_}
 use lib.ListN.{getD}
+use Rattle.rules.specs.declared.Pair.{Pair}
 use Rattle.rules.specs.declared.Limits.{Limits}
 use Rattle.rules.specs.declared.MixtureLimits.{MixtureLimits}
 use Rattle.rules.specs.Units.{thousandths}
-
-pub record Pair : Type 0 where
-  pub lower : ℤ
-  pub upper : ℤ
 
 -- minimum − 700 and minimum + 3,000
 abbrev pub vma-pair : ℤ → Pair

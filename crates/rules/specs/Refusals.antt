@@ -8,13 +8,14 @@ use lib.ListN.{length}
 use lib.Signed.{ltZ}
 use Rattle.rules.specs.declared.Limit.{Limit}
 use Rattle.rules.specs.declared.Limit.the-variants.{Absent, At}
+use Rattle.rules.specs.declared.Pair.{Pair}
 use Rattle.rules.specs.declared.Refusal.{Refusal}
 use Rattle.rules.specs.declared.Refusal.the-variants.{Size, Version, Flags, Count, Range, Unlimited, Crossed, Room, Number}
 use Rattle.rules.specs.Units.{in-range, hundred-percent}
 use Rattle.rules.specs.Said.{Said, refused, Case}
 use Rattle.rules.specs.Lot.{most}
 use Rattle.rules.specs.Record.{length-field, version-field, flags-field, n-field, upper-field, lower-field, has-upper, has-lower, head-size, length-of, spelled}
-use Rattle.rules.specs.Mixture.{Pair, vma-pair, voids-pair}
+use Rattle.rules.specs.Mixture.{vma-pair, voids-pair}
 
 abbrev pub number-of : Refusal → ℕ
 number-of Size = 1

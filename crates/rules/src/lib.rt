@@ -140,6 +140,12 @@ pub enum PayAnswer {
     Refused(Refusal),
 }
 
+// A lower and an upper limit as they are worked out: they may be out of range.
+pub struct Pair {
+    pub lower: i64,
+    pub upper: i64,
+}
+
 pub struct Limits {
     pub lower: Thousandths,
     pub upper: Thousandths,

@@ -8,7 +8,7 @@ use mir.Val.{SFits}
 use mir.Facts.{toZ-ofZ}
 use Rattle.integers.proofs.Magnitude.{natAbs-add, natAbs-sub, fits-of}
 use Rattle.laws.specs.InPercent.{InPercent}
-use Rattle.laws.proofs.Side.{percent-magnitude}
+use Rattle.laws.proofs.Between.{between-magnitude}
 use Rattle.quality.proofs.within.Statement.{statement}
 use Rattle.quality.proofs.within.Tie as tie
 
@@ -20,8 +20,8 @@ record Fits (u l : ℤ) : Type 0 where
 
 fits : (u l : ℤ) → InPercent u × InPercent l → Fits u l
 fits u l (hu, hl) =
-    let mu : natAbs u ≤ 10000 = percent-magnitude hu in
-    let ml : natAbs l ≤ 10000 = percent-magnitude hl in
+    let mu : natAbs u ≤ 10000 = between-magnitude hu in
+    let ml : natAbs l ≤ 10000 = between-magnitude hl in
     record {
       upper = fits-of w64 (omega arith);
       lower = fits-of w64 (omega arith);

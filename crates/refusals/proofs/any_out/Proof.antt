@@ -8,9 +8,9 @@ use borrow.Author.Needs.{needs}
 use lib.ListN.{length, drop, getD}
 use lib.Seq.{drop-length}
 use lib.IntN.{ℤ, pos}
-use mir.Syntax.{w32}
+use mir.Syntax.{w32, w64}
 use mir.Val.{SFits}
-use mir.Facts.{toZ-ofZ}
+use mir.Facts.{toZ-ofZ, sfits-widen}
 use Rattle.rules.specs.Refusals.{any-out}
 use Rattle.laws.proofs.Lists.{drop-before}
 use Rattle.refusals.proofs.any_out.Statement.{statement}
@@ -35,6 +35,11 @@ mul-in-range c = omega arith
 shared-slice-copy-out-in-range : tie.Need-shared-slice-copy-out-in-range Inv-loop μ-loop
 shared-slice-copy-out-in-range c = omega arith
 
+cast-in-range : tie.Need-cast-in-range Inv-loop μ-loop
+cast-in-range c =
+    let f : SFits w32 (getD (c .before .before .before .args .readings .now) (c .before .before .loop .i - 1) (pos 0)) = record { sfits = c .in-range-arg .given } in
+    simp toZ-ofZ (sfits-widen tt f)
+
 in-range-requires : tie.Need-in-range-requires Inv-loop μ-loop
 in-range-requires c κs = search needs
 
@@ -46,7 +51,8 @@ unfolding any-out
 loop-again c =
     let xs : List ℤ = c .before .before .before .before .args .readings .now in
     let i : ℕ = c .before .before .before .loop .i in
-    let f : SFits w32 (getD xs (i - 1) (pos 0)) = record { sfits = c .before .in-range-arg .given } in (
+    let f : SFits w32 (getD xs (i - 1) (pos 0)) = record { sfits = c .before .in-range-arg .given } in
+    let g : SFits w64 (getD xs (i - 1) (pos 0)) = sfits-widen tt f in (
       omega arith,
       ap₂ (λ (x rest : Bool). not x || rest) (simp toZ-ofZ at (c .in-range .ensures)) (c .before .before .before .loop .inv .1)
           ∙ sym (ap any-out (drop-before xs i (pos 0) (omega arith) (omega arith))),
@@ -67,6 +73,7 @@ any-out-spec =
     sub-i
     mul-in-range
     shared-slice-copy-out-in-range
+    cast-in-range
     in-range-requires
     loop-less
     loop-again

@@ -1,0 +1,16 @@
+-- What is known of the numbers of pay that are not refused: it keeps their products within 64 bits.
+use lib.IntN.{ℤ, pos}
+use Rattle.laws.specs.Between.{Between}
+use Rattle.laws.specs.InPercent.{InPercent}
+
+-- the PWLs of VMA, voids and density
+pub record Percents (a b c : ℤ) : Type 0 where
+  pub vma : InPercent a
+  pub voids : InPercent b
+  pub density : InPercent c
+
+-- with price and quantity
+pub record Payable (a b c p q : ℤ) : Type 0 where
+  pub percents : Percents a b c
+  pub price : Between (pos 0) (pos 10000000) p
+  pub quantity : Between (pos 0) (pos 100000000) q

@@ -1,0 +1,122 @@
+-- The two tests, in the order of the cases that a lookup can meet; what passes them is in range and has a row.
+use mathlib.Core.Path.{_≡_, sym, ap, ap₂, _∙_}
+use mathlib.Core.Bool.{false, _||_}
+use borrow.Author.Needs.{needs}
+use lib.IntN.{pos}
+use lib.Signed.{yes-nonNeg}
+use mir.Facts.{toZ-ofZ, fits-below}
+use Rattle.rules.specs.declared.MixtureLimits.{MixtureLimits}
+use Rattle.rules.specs.Said.{Said, answers}
+use Rattle.rules.specs.Mixture.{density-pair, limits, mixture-limits}
+use Rattle.rules.specs.Refusals.{outside, pair-out, offset-case, mixture-case}
+use Rattle.rules.specs.Meets.{mixture-meets}
+use Rattle.rules.specs.Entries.{mixture-says}
+use Rattle.integers.proofs.Magnitude.{natAbs-pos}
+use Rattle.laws.specs.Between.{Between}
+use Rattle.laws.proofs.Between.{not-outside, between-magnitude}
+use Rattle.laws.proofs.Ruled.{ruled-none, ruled-met, ruled-passed}
+use Rattle.laws.proofs.Tests.{neither}
+use Rattle.mixture.proofs.lookup.Statement.{statement}
+use Rattle.mixture.proofs.lookup.Tie as tie
+
+abbrev answer : MixtureLimits → Said MixtureLimits
+answer l = answers l
+
+-- ---- the tests
+
+offset : (c : tie.After-out2) → (c .before .out .result || c .out2 .result) ≡ offset-case (c .before .before .before .before .args .minimum .0) (c .before .before .before .before .args .target .0) .applies
+offset c =
+    ap₂ _||_ (c .before .out .ensures ∙ ap pair-out (c .before .before .before .vma .ensures)) (c .out2 .ensures ∙ ap pair-out (c .before .before .voids .ensures))
+
+number : (c : tie.After-outside) → c .outside .result ≡ mixture-case (c .before .before .before .before .before .before .args .mixture) .applies
+number c =
+    let start = c .before .before .before .before .before .before in
+    let f = start .fits .mixture in
+    simp toZ-ofZ at (c .outside .ensures)
+
+-- ---- what passes them
+
+within : (c : tie.Else1) → (pair-out (c .before .before .before .before .vma .result) ≡ false) × (pair-out (c .before .before .before .voids .result) ≡ false)
+within c =
+    let h = neither (c .before .before .out .result) (c .before .out2 .result) (c .if1 .left) in
+    (sym (c .before .before .out .ensures) ∙ h .0, sym (c .before .out2 .ensures) ∙ h .1)
+
+row : (c : tie.Else2) → Between (pos 0) (pos 3) (c .before .before .before .before .before .before .before .args .mixture)
+row c = not-outside (pos 3) _ (sym (number (c .before)) ∙ c .if2 .left)
+
+vma-requires : tie.Need-vma-requires
+vma-requires c κs = search needs
+
+voids-requires : tie.Need-voids-requires
+voids-requires c κs = search needs
+
+out-requires : tie.Need-out-requires
+out-requires c κs = search needs
+
+out-requires-2 : tie.Need-out-requires-2
+out-requires-2 c κs = search needs
+
+outside-requires : tie.Need-outside-requires
+outside-requires c κs = search needs
+
+limits-requires : tie.Need-limits-requires
+limits-requires c κs = within (c .before .before) .0
+
+limits-requires-2 : tie.Need-limits-requires-2
+limits-requires-2 c κs = within (c .before .before .before) .1
+
+cast-density : tie.Need-cast-density
+cast-density c =
+    let h = row (c .before .before) in
+    let f = c .before .before .before .before .before .before .before .before .before .fits .mixture in
+    simp toZ-ofZ (yes-nonNeg (h .low), fits-below {n = 3} tt (between-magnitude h))
+
+density-requires : tie.Need-density-requires
+density-requires c κs =
+    let f = c .before .before .before .before .before .before .before .before .before .fits .mixture in
+    simp toZ-ofZ (between-magnitude (row (c .before .before)))
+
+returns : tie.Need-returns
+unfolding mixture-says mixture-meets
+returns c = sym (ruled-met _ _ _ (sym (offset (c .before)) ∙ c .if1 .taken))
+
+returns-2 : tie.Need-returns-2
+unfolding mixture-says mixture-meets
+returns-2 c =
+    let past = c .before .before in
+    sym
+    (ruled-passed _ _ _ (sym (offset (past .before)) ∙ past .if1 .left)
+    ∙ ruled-met _ _ _ (sym (number (c .before)) ∙ c .if2 .taken))
+
+returns-3 : tie.Need-returns-3
+unfolding mixture-says mixture-meets mixture-limits
+returns-3 c =
+    let found = c .before .before .before in
+    let past = found .before .before in
+    let start = past .before .before .before .before .before in
+    let f = start .fits .mixture in
+    let vma = c .before .before .limits .ensures ∙ ap limits (past .before .before .before .before .vma .ensures) in
+    let voids = c .before .limits2 .ensures ∙ ap limits (past .before .before .before .voids .ensures) in
+    let density = (simp toZ-ofZ at (c .density .ensures)) ∙ ap (λ z. limits (density-pair z)) (natAbs-pos (row found .low)) in
+    ap answer (λ i. record { vma = vma i; voids = voids i; density = density i })
+    ∙ sym
+    (ruled-passed _ _ _ (sym (offset (past .before)) ∙ past .if1 .left)
+    ∙ ruled-passed _ _ _ (sym (number (found .before)) ∙ found .if2 .left)
+    ∙ ruled-none _)
+
+pub lookup-spec : {M : Type 1} → statement M
+lookup-spec =
+    tie.close
+    (tie.spec
+    vma-requires
+    voids-requires
+    out-requires
+    out-requires-2
+    outside-requires
+    limits-requires
+    limits-requires-2
+    cast-density
+    density-requires
+    returns
+    returns-2
+    returns-3)

@@ -1,8 +1,8 @@
 -- A number that fits 32 bits fits 64.
 use borrow.Author.Needs.{needs}
 use mir.Facts.{toZ-ofZ, sfits-widen}
-use Rattle.desk.proofs.thousandths.Statement.{statement}
-use Rattle.desk.proofs.thousandths.Tie as tie
+use Rattle.desk.proofs.show.thousandths.Statement.{statement}
+use Rattle.desk.proofs.show.thousandths.Tie as tie
 
 cast-number : tie.Need-cast-number
 cast-number c = let f = c .before .fits .z in simp toZ-ofZ (sfits-widen tt f)

@@ -1,29 +1,54 @@
--- What holds of the numbers of pay that are not refused.
-use mathlib.Core.Path.{_≡_}
-use mathlib.Core.Bool.{Bool, _||_}
+-- Pay is answered exactly for the numbers that document 01 names, and gives refusal 9 for all others.
+use mathlib.Core.Path.{_≡_, refl, _∙_}
+use mathlib.Core.Bool.{Bool, true, false, _||_}
 use mathlib.Core.List.{[]}
 use lib.IntN.{ℤ, pos}
 use Rattle.rules.specs.Units.{hundred-percent}
-use Rattle.rules.specs.Said.{answers, checked}
+use Rattle.rules.specs.Said.{refused, answers, checked}
+use Rattle.rules.specs.Pay.{payment}
 use Rattle.rules.specs.Refusals.{outside, pay-case}
 use Rattle.rules.specs.Meets.{pay-meets}
+use Rattle.rules.specs.Entries.{pay-says}
 use Rattle.laws.specs.Payable.{Payable}
 use Rattle.laws.proofs.Tests.{neither}
-use Rattle.laws.proofs.Between.{not-outside}
-use Rattle.laws.proofs.Ruled.{none-met}
+use Rattle.laws.proofs.Between.{not-outside, taken}
+use Rattle.laws.proofs.Ruled.{ruled-none, ruled-met, ruled-passed, none-met}
 
-pub payable : (vma voids density price quantity : ℤ) → checked (pay-meets vma voids density price quantity) ≡ answers tt → Payable vma voids density price quantity
-unfolding pay-meets
-payable vma voids density price quantity e =
-    let a : Bool = outside hundred-percent vma in
-    let b : Bool = outside hundred-percent voids in
-    let c : Bool = outside hundred-percent density in
-    let all = neither (a || b || c || outside (pos 10000000) price) (outside (pos 100000000) quantity) (none-met (pay-case vma voids density price quantity) [] e .0) in
-    let four = neither (a || b || c) (outside (pos 10000000) price) (all .0) in
-    let three = neither (a || b) c (four .0) in
-    let two = neither a b (three .0) in
-    record {
-      percents = record { vma = not-outside hundred-percent vma (two .0); voids = not-outside hundred-percent voids (two .1); density = not-outside hundred-percent density (three .1) };
-      price = not-outside (pos 10000000) price (four .1);
-      quantity = not-outside (pos 100000000) quantity (all .1);
-    }
+module _ (vma voids density price quantity : ℤ) where
+  -- Numbers to which the case does not apply are payable,
+  case-passed : pay-case vma voids density price quantity .applies ≡ false → Payable vma voids density price quantity
+  case-passed e =
+      let a : Bool = outside hundred-percent vma in
+      let b : Bool = outside hundred-percent voids in
+      let c : Bool = outside hundred-percent density in
+      let all = neither (a || b || c || outside (pos 10000000) price) (outside (pos 100000000) quantity) e in
+      let four = neither (a || b || c) (outside (pos 10000000) price) (all .0) in
+      let three = neither (a || b) c (four .0) in
+      let two = neither a b (three .0) in
+      record {
+        percents = record { vma = not-outside hundred-percent vma (two .0); voids = not-outside hundred-percent voids (two .1); density = not-outside hundred-percent density (three .1) };
+        price = not-outside (pos 10000000) price (four .1);
+        quantity = not-outside (pos 100000000) quantity (all .1);
+      }
+
+  pub payable : checked (pay-meets vma voids density price quantity) ≡ answers tt → Payable vma voids density price quantity
+  unfolding pay-meets
+  payable e = case-passed (none-met (pay-case vma voids density price quantity) [] e .0)
+
+  -- and to payable numbers it does not apply.
+  passes : Payable vma voids density price quantity → pay-case vma voids density price quantity .applies ≡ false
+  passes h = rw (taken (h .percents .vma), taken (h .percents .voids), taken (h .percents .density), taken (h .price), taken (h .quantity))
+
+  -- Pay is answered for PWLs from 0 to 10,000, a price from 0 to 10,000,000 and a quantity from 0 to 100,000,000,
+  pub payable-is-paid : Payable vma voids density price quantity → pay-says vma voids density price quantity ≡ answers (payment vma voids density price quantity)
+  unfolding pay-says pay-meets
+  payable-is-paid h = ruled-passed _ _ _ (passes h) ∙ ruled-none _
+
+  -- and refused with 9 for any other numbers.
+  pub not-payable-is-refused : ¬ Payable vma voids density price quantity → pay-says vma voids density price quantity ≡ refused 9
+  unfolding pay-says pay-meets
+  not-payable-is-refused h = by (pay-case vma voids density price quantity .applies) refl
+    where
+      by : (b : Bool) → pay-case vma voids density price quantity .applies ≡ b → pay-says vma voids density price quantity ≡ refused 9
+      by true e = ruled-met _ _ _ e
+      by false e = absurd (h (case-passed e))

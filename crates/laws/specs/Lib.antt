@@ -12,5 +12,6 @@ pub mod Paid
 pub mod Payable
 pub mod Published
 pub mod Settled
+pub mod InReach
 pub mod Taken
 pub mod Desk

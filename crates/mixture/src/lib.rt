@@ -93,9 +93,11 @@ pub fn lookup(mixture: i64, minimum: Thousandths, target: Thousandths) -> Mixtur
 {
     let vma = vma(minimum);
     let voids = voids(target);
-    if out(vma) | out(voids) {
+    let far = out(vma) | out(voids);
+    let unknown = outside(3, mixture);
+    if far {
         MixtureAnswer::Refused(Refusal::Range)
-    } else if outside(3, mixture) {
+    } else if unknown {
         MixtureAnswer::Refused(Refusal::Number)
     } else {
         MixtureAnswer::Answers(MixtureLimits {

@@ -24,25 +24,26 @@ answer l = answers l
 
 -- ---- the tests
 
-offset : (c : tie.After-out2) → (c .before .out .result || c .out2 .result) ≡ offset-case (c .before .before .before .before .args .minimum .0) (c .before .before .before .before .args .target .0) .applies
-offset c =
-    ap₂ _||_ (c .before .out .ensures ∙ ap pair-out (c .before .before .before .vma .ensures)) (c .out2 .ensures ∙ ap pair-out (c .before .before .voids .ensures))
+module _ (c : tie.After-outside) where
+  offset : (c .before .before .out .result || c .before .out2 .result) ≡ offset-case (c .before .before .before .before .before .args .minimum .0) (c .before .before .before .before .before .args .target .0) .applies
+  offset =
+      ap₂ _||_
+      (c .before .before .out .ensures ∙ ap pair-out (c .before .before .before .before .vma .ensures))
+      (c .before .out2 .ensures ∙ ap pair-out (c .before .before .before .voids .ensures))
 
-number : (c : tie.After-outside) → c .outside .result ≡ mixture-case (c .before .before .before .before .before .before .args .mixture) .applies
-number c =
-    let start = c .before .before .before .before .before .before in
-    let f = start .fits .mixture in
-    simp toZ-ofZ at (c .outside .ensures)
+  number : c .outside .result ≡ mixture-case (c .before .before .before .before .before .args .mixture) .applies
+  number = let f = c .before .before .before .before .before .fits .mixture in simp toZ-ofZ at (c .outside .ensures)
 
 -- ---- what passes them
 
-within : (c : tie.Else1) → (pair-out (c .before .before .before .before .vma .result) ≡ false) × (pair-out (c .before .before .before .voids .result) ≡ false)
+within : (c : tie.Else1) → (pair-out (c .before .before .before .before .before .vma .result) ≡ false) × (pair-out (c .before .before .before .before .voids .result) ≡ false)
 within c =
-    let h = neither (c .before .before .out .result) (c .before .out2 .result) (c .if1 .left) in
-    (sym (c .before .before .out .ensures) ∙ h .0, sym (c .before .out2 .ensures) ∙ h .1)
+    let tests = c .before in
+    let h = neither (tests .before .before .out .result) (tests .before .out2 .result) (c .if1 .left) in
+    (sym (tests .before .before .out .ensures) ∙ h .0, sym (tests .before .out2 .ensures) ∙ h .1)
 
 row : (c : tie.Else2) → Between (pos 0) (pos 3) (c .before .before .before .before .before .before .before .args .mixture)
-row c = not-outside (pos 3) _ (sym (number (c .before)) ∙ c .if2 .left)
+row c = not-outside (pos 3) _ (sym (number (c .before .before)) ∙ c .if2 .left)
 
 vma-requires : tie.Need-vma-requires
 vma-requires c κs = search needs
@@ -60,10 +61,10 @@ outside-requires : tie.Need-outside-requires
 outside-requires c κs = search needs
 
 limits-requires : tie.Need-limits-requires
-limits-requires c κs = within (c .before .before) .0
+limits-requires c κs = within (c .before) .0
 
 limits-requires-2 : tie.Need-limits-requires-2
-limits-requires-2 c κs = within (c .before .before .before) .1
+limits-requires-2 c κs = within (c .before .before) .1
 
 cast-density : tie.Need-cast-density
 cast-density c =
@@ -83,25 +84,26 @@ returns c = sym (ruled-met _ _ _ (sym (offset (c .before)) ∙ c .if1 .taken))
 returns-2 : tie.Need-returns-2
 unfolding mixture-says mixture-meets
 returns-2 c =
-    let past = c .before .before in
+    let past = c .before in
+    let tests = past .before in
     sym
-    (ruled-passed _ _ _ (sym (offset (past .before)) ∙ past .if1 .left)
-    ∙ ruled-met _ _ _ (sym (number (c .before)) ∙ c .if2 .taken))
+    (ruled-passed _ _ _ (sym (offset tests) ∙ past .if1 .left)
+    ∙ ruled-met _ _ _ (sym (number tests) ∙ c .if2 .taken))
 
 returns-3 : tie.Need-returns-3
 unfolding mixture-says mixture-meets mixture-limits
 returns-3 c =
     let found = c .before .before .before in
-    let past = found .before .before in
-    let start = past .before .before .before .before .before in
-    let f = start .fits .mixture in
-    let vma = c .before .before .limits .ensures ∙ ap limits (past .before .before .before .before .vma .ensures) in
-    let voids = c .before .limits2 .ensures ∙ ap limits (past .before .before .before .voids .ensures) in
+    let past = found .before in
+    let tests = past .before in
+    let f = tests .before .before .before .before .before .fits .mixture in
+    let vma = c .before .before .limits .ensures ∙ ap limits (tests .before .before .before .before .vma .ensures) in
+    let voids = c .before .limits2 .ensures ∙ ap limits (tests .before .before .before .voids .ensures) in
     let density = (simp toZ-ofZ at (c .density .ensures)) ∙ ap (λ z. limits (density-pair z)) (natAbs-pos (row found .low)) in
     ap answer (λ i. record { vma = vma i; voids = voids i; density = density i })
     ∙ sym
-    (ruled-passed _ _ _ (sym (offset (past .before)) ∙ past .if1 .left)
-    ∙ ruled-passed _ _ _ (sym (number (found .before)) ∙ found .if2 .left)
+    (ruled-passed _ _ _ (sym (offset tests) ∙ past .if1 .left)
+    ∙ ruled-passed _ _ _ (sym (number tests) ∙ found .if2 .left)
     ∙ ruled-none _)
 
 pub lookup-spec : {M : Type 1} → statement M

@@ -31,6 +31,7 @@ pub mod Published
 pub mod HalfUp
 pub mod Settled
 pub mod Taken
+pub mod InReach
 pub mod WiderPaid
 pub mod Lots
 pub mod EvaluationAnswers

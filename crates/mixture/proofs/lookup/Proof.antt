@@ -36,14 +36,17 @@ module _ (c : tie.After-outside) where
 
 -- ---- what passes them
 
-within : (c : tie.Else1) → (pair-out (c .before .before .before .before .before .vma .result) ≡ false) × (pair-out (c .before .before .before .before .voids .result) ≡ false)
-within c =
-    let tests = c .before in
-    let h = neither (tests .before .before .out .result) (tests .before .out2 .result) (c .if1 .left) in
+passed : (c : tie.Else2) → (c .before .before .before .before .out .result || c .before .before .before .out2 .result ≡ false) × (c .before .before .outside .result ≡ false)
+passed c = (c .before .if1 .left, c .if2 .left)
+
+in-range : (c : tie.Else2) → (pair-out (c .before .before .before .before .before .before .vma .result) ≡ false) × (pair-out (c .before .before .before .before .before .voids .result) ≡ false)
+in-range c =
+    let tests = c .before .before in
+    let h = neither (tests .before .before .out .result) (tests .before .out2 .result) (passed c .0) in
     (sym (tests .before .before .out .ensures) ∙ h .0, sym (tests .before .out2 .ensures) ∙ h .1)
 
 row : (c : tie.Else2) → Between (pos 0) (pos 3) (c .before .before .before .before .before .before .before .args .mixture)
-row c = not-outside (pos 3) _ (sym (number (c .before .before)) ∙ c .if2 .left)
+row c = not-outside (pos 3) _ (sym (number (c .before .before)) ∙ passed c .1)
 
 vma-requires : tie.Need-vma-requires
 vma-requires c κs = search needs
@@ -61,10 +64,10 @@ outside-requires : tie.Need-outside-requires
 outside-requires c κs = search needs
 
 limits-requires : tie.Need-limits-requires
-limits-requires c κs = within (c .before) .0
+limits-requires c κs = in-range c .0
 
 limits-requires-2 : tie.Need-limits-requires-2
-limits-requires-2 c κs = within (c .before .before) .1
+limits-requires-2 c κs = in-range (c .before) .1
 
 cast-density : tie.Need-cast-density
 cast-density c =
@@ -94,16 +97,15 @@ returns-3 : tie.Need-returns-3
 unfolding mixture-says mixture-meets mixture-limits
 returns-3 c =
     let found = c .before .before .before in
-    let past = found .before in
-    let tests = past .before in
+    let tests = found .before .before in
     let f = tests .before .before .before .before .before .fits .mixture in
     let vma = c .before .before .limits .ensures ∙ ap limits (tests .before .before .before .before .vma .ensures) in
     let voids = c .before .limits2 .ensures ∙ ap limits (tests .before .before .before .voids .ensures) in
     let density = (simp toZ-ofZ at (c .density .ensures)) ∙ ap (λ z. limits (density-pair z)) (natAbs-pos (row found .low)) in
     ap answer (λ i. record { vma = vma i; voids = voids i; density = density i })
     ∙ sym
-    (ruled-passed _ _ _ (sym (offset tests) ∙ past .if1 .left)
-    ∙ ruled-passed _ _ _ (sym (number tests) ∙ found .if2 .left)
+    (ruled-passed _ _ _ (sym (offset tests) ∙ passed found .0)
+    ∙ ruled-passed _ _ _ (sym (number tests) ∙ passed found .1)
     ∙ ruled-none _)
 
 pub lookup-spec : {M : Type 1} → statement M

@@ -1,6 +1,6 @@
 -- W, what is added to it and the quotient fit.
 use mathlib.Core.Path.{refl}
-use Prim.Native.Nat.{_≤_}
+use Prim.Native.Nat.{ℕ, _+_, _≤_}
 use native.Mathlib.Omega.{arith}
 use lib.IntN.{ℤ, pos, natAbs, _+ℤ_}
 use lib.Signed.{quotZ}
@@ -15,19 +15,23 @@ use Rattle.laws.proofs.Between.{between-magnitude}
 use Rattle.pay.proofs.PayRule.composite.Statement.{statement}
 use Rattle.pay.proofs.PayRule.composite.Tie as tie
 
+-- what is added to W
+abbrev half : ℕ
+half = 100
+
 record Fits (w : ℤ) : Type 0 where
   itself : SFits w64 w
-  sum : SFits w64 (w +ℤ pos 100)
-  quotient : SFits w64 (quotZ (w +ℤ pos 100) (pos 200))
+  sum : SFits w64 (w +ℤ pos half)
+  quotient : SFits w64 (quotZ (w +ℤ pos half) (pos 200))
 
 fits : (w : ℤ) → Between (pos 106000) (pos 206000) w → Fits w
 fits w h =
     let m : natAbs w ≤ 206000 = between-magnitude h in
-    let s : natAbs (w +ℤ pos 100) ≤ 206100 = omega (arith, natAbs-add w (pos 100)) in
+    let s : natAbs (w +ℤ pos half) ≤ 206000 + half = omega (arith, natAbs-add w (pos half)) in
     record {
       itself = fits-of w64 (omega arith);
       sum = fits-of w64 (omega arith);
-      quotient = fits-of w64 (omega (arith, natAbs-quotZ 200 (w +ℤ pos 100)));
+      quotient = fits-of w64 (omega (arith, natAbs-quotZ 200 (w +ℤ pos half)));
     }
 
 add-t2 : tie.Need-add-t2

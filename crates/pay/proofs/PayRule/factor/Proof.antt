@@ -1,6 +1,6 @@
 -- The PWL, what it counts and the sum fit.
 use mathlib.Core.Path.{refl}
-use Prim.Native.Nat.{_≤_}
+use Prim.Native.Nat.{ℕ, _*_, _≤_}
 use native.Mathlib.Omega.{arith}
 use borrow.Author.Needs.{needs}
 use lib.IntN.{ℤ, pos, natAbs, _+ℤ_, _*ℤ_}
@@ -14,19 +14,26 @@ use Rattle.laws.proofs.Between.{between-magnitude}
 use Rattle.pay.proofs.PayRule.factor.Statement.{statement}
 use Rattle.pay.proofs.PayRule.factor.Tie as tie
 
+-- the base in 200ths, and what a hundredth of PWL counts
+abbrev base-part : ℕ
+base-part = 10600
+
+abbrev counts : ℕ
+counts = 1
+
 record Fits (pwl : ℤ) : Type 0 where
   itself : SFits w64 pwl
-  counted : SFits w64 (pos 1 *ℤ pwl)
-  sum : SFits w64 (pos 10600 +ℤ pos 1 *ℤ pwl)
+  counted : SFits w64 (pos counts *ℤ pwl)
+  sum : SFits w64 (pos base-part +ℤ pos counts *ℤ pwl)
 
 fits : (pwl : ℤ) → InPercent pwl → Fits pwl
 fits pwl h =
     let m : natAbs pwl ≤ 10000 = between-magnitude h in
-    let p : natAbs (pos 1 *ℤ pwl) ≤ 10000 = omega (arith, natAbs-mul (pos 1) pwl) in
+    let p : natAbs (pos counts *ℤ pwl) ≤ counts * 10000 = omega (arith, natAbs-mul (pos counts) pwl) in
     record {
       itself = fits-of w64 (omega arith);
       counted = fits-of w64 (omega arith);
-      sum = fits-of w64 (omega (arith, natAbs-add (pos 10600) (pos 1 *ℤ pwl)));
+      sum = fits-of w64 (omega (arith, natAbs-add (pos base-part) (pos counts *ℤ pwl)));
     }
 
 mul-t2 : tie.Need-mul-t2

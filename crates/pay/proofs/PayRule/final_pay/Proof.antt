@@ -1,6 +1,6 @@
 -- The products, what is added to them and the quotient fit.
 use mathlib.Core.Path.{refl}
-use Prim.Native.Nat.{_≤_}
+use Prim.Native.Nat.{ℕ, _+_, _≤_}
 use native.Mathlib.Nat.{mul-le-mul}
 use native.Mathlib.Omega.{arith}
 use lib.IntN.{ℤ, pos, natAbs, _+ℤ_, _*ℤ_}
@@ -16,14 +16,18 @@ use Rattle.laws.proofs.Between.{between-magnitude}
 use Rattle.pay.proofs.PayRule.final_pay.Statement.{statement}
 use Rattle.pay.proofs.PayRule.final_pay.Tie as tie
 
+-- what is added to the products
+abbrev half : ℕ
+half = 50000
+
 record Fits (p q c : ℤ) : Type 0 where
   price : SFits w64 p
   quantity : SFits w64 q
   composite : SFits w64 c
   whole : SFits w64 (p *ℤ q)
   paid : SFits w64 (p *ℤ q *ℤ c)
-  sum : SFits w64 (p *ℤ q *ℤ c +ℤ pos 50000)
-  quotient : SFits w64 (quotZ (p *ℤ q *ℤ c +ℤ pos 50000) (pos 100000))
+  sum : SFits w64 (p *ℤ q *ℤ c +ℤ pos half)
+  quotient : SFits w64 (quotZ (p *ℤ q *ℤ c +ℤ pos half) (pos 100000))
 
 fits : (p q c : ℤ) → Between (pos 0) (pos 10000000) p × Between (pos 0) (pos 100000000) q × Between (pos 530) (pos 1030) c → Fits p q c
 fits p q c (hp, hq, hc) =
@@ -32,7 +36,7 @@ fits p q c (hp, hq, hc) =
     let mc : natAbs c ≤ 1030 = between-magnitude hc in
     let whole : natAbs (p *ℤ q) ≤ 1000000000000000 = omega (arith, natAbs-mul p q, mul-le-mul mp mq) in
     let paid : natAbs (p *ℤ q *ℤ c) ≤ 1030000000000000000 = omega (arith, natAbs-mul (p *ℤ q) c, mul-le-mul whole mc) in
-    let sum : natAbs (p *ℤ q *ℤ c +ℤ pos 50000) ≤ 1030000000000050000 = omega (arith, natAbs-add (p *ℤ q *ℤ c) (pos 50000)) in
+    let sum : natAbs (p *ℤ q *ℤ c +ℤ pos half) ≤ 1030000000000000000 + half = omega (arith, natAbs-add (p *ℤ q *ℤ c) (pos half)) in
     record {
       price = fits-of w64 (omega arith);
       quantity = fits-of w64 (omega arith);
@@ -40,7 +44,7 @@ fits p q c (hp, hq, hc) =
       whole = fits-of w64 (omega arith);
       paid = fits-of w64 (omega arith);
       sum = fits-of w64 (omega arith);
-      quotient = fits-of w64 (omega (arith, natAbs-quotZ 100000 (p *ℤ q *ℤ c +ℤ pos 50000)));
+      quotient = fits-of w64 (omega (arith, natAbs-quotZ 100000 (p *ℤ q *ℤ c +ℤ pos half)));
     }
 
 of : (c : tie.Start) → Fits (c .args .price .0) (c .args .quantity .0) (c .args .composite .0)

@@ -1,6 +1,6 @@
 -- The three factors, their weighted parts and the sums of these fit.
 use mathlib.Core.Path.{_≡_, ap, ap₂}
-use Prim.Native.Nat.{_≤_}
+use Prim.Native.Nat.{ℕ, _+_, _*_, _≤_}
 use native.Mathlib.Omega.{arith}
 use lib.IntN.{ℤ, pos, natAbs, _+ℤ_, _*ℤ_}
 use mir.Syntax.{w64}
@@ -14,15 +14,25 @@ use Rattle.laws.proofs.Composite.{factor-lies-between}
 use Rattle.pay.proofs.PayRule.weighted.Statement.{statement}
 use Rattle.pay.proofs.PayRule.weighted.Tie as tie
 
+-- the weights
+abbrev of-vma : ℕ
+of-vma = 3
+
+abbrev of-voids : ℕ
+of-voids = 3
+
+abbrev of-density : ℕ
+of-density = 4
+
 record Fits (a b c : ℤ) : Type 0 where
   vma : SFits w64 a
   voids : SFits w64 b
   density : SFits w64 c
-  vma-part : SFits w64 (pos 3 *ℤ a)
-  voids-part : SFits w64 (pos 3 *ℤ b)
-  density-part : SFits w64 (pos 4 *ℤ c)
-  two : SFits w64 (pos 3 *ℤ a +ℤ pos 3 *ℤ b)
-  three : SFits w64 (pos 3 *ℤ a +ℤ pos 3 *ℤ b +ℤ pos 4 *ℤ c)
+  vma-part : SFits w64 (pos of-vma *ℤ a)
+  voids-part : SFits w64 (pos of-voids *ℤ b)
+  density-part : SFits w64 (pos of-density *ℤ c)
+  two : SFits w64 (pos of-vma *ℤ a +ℤ pos of-voids *ℤ b)
+  three : SFits w64 (pos of-vma *ℤ a +ℤ pos of-voids *ℤ b +ℤ pos of-density *ℤ c)
 
 -- a factor of a PWL
 small : {pwl z : ℤ} → InPercent pwl → z ≡ factor pwl → natAbs z ≤ 20600
@@ -30,10 +40,10 @@ small h e = rw e (between-magnitude (factor-lies-between h))
 
 fits : {a b c : ℤ} → natAbs a ≤ 20600 → natAbs b ≤ 20600 → natAbs c ≤ 20600 → Fits a b c
 fits {a} {b} {c} ha hb hc =
-    let pa : natAbs (pos 3 *ℤ a) ≤ 61800 = omega (arith, natAbs-mul (pos 3) a) in
-    let pb : natAbs (pos 3 *ℤ b) ≤ 61800 = omega (arith, natAbs-mul (pos 3) b) in
-    let pc : natAbs (pos 4 *ℤ c) ≤ 82400 = omega (arith, natAbs-mul (pos 4) c) in
-    let two : natAbs (pos 3 *ℤ a +ℤ pos 3 *ℤ b) ≤ 123600 = omega (arith, natAbs-add (pos 3 *ℤ a) (pos 3 *ℤ b)) in
+    let pa : natAbs (pos of-vma *ℤ a) ≤ of-vma * 20600 = omega (arith, natAbs-mul (pos of-vma) a) in
+    let pb : natAbs (pos of-voids *ℤ b) ≤ of-voids * 20600 = omega (arith, natAbs-mul (pos of-voids) b) in
+    let pc : natAbs (pos of-density *ℤ c) ≤ of-density * 20600 = omega (arith, natAbs-mul (pos of-density) c) in
+    let two : natAbs (pos of-vma *ℤ a +ℤ pos of-voids *ℤ b) ≤ (of-vma + of-voids) * 20600 = omega (arith, natAbs-add (pos of-vma *ℤ a) (pos of-voids *ℤ b)) in
     record {
       vma = fits-of w64 (omega arith);
       voids = fits-of w64 (omega arith);
@@ -42,7 +52,7 @@ fits {a} {b} {c} ha hb hc =
       voids-part = fits-of w64 (omega arith);
       density-part = fits-of w64 (omega arith);
       two = fits-of w64 (omega arith);
-      three = fits-of w64 (omega (arith, natAbs-add (pos 3 *ℤ a +ℤ pos 3 *ℤ b) (pos 4 *ℤ c)));
+      three = fits-of w64 (omega (arith, natAbs-add (pos of-vma *ℤ a +ℤ pos of-voids *ℤ b) (pos of-density *ℤ c)));
     }
 
 called : (c : tie.After-factor3) → Fits (c .before .before .factor .result .0) (c .before .factor2 .result .0) (c .factor3 .result .0)
@@ -87,7 +97,7 @@ returns c =
     let voids = calls .before .factor2 .ensures in
     let density = calls .factor3 .ensures in
     simp (toZ-ofZ, f .vma, f .voids, f .density, f .vma-part, f .voids-part, f .density-part, f .two, f .three)
-    (ap₂ _+ℤ_ (ap₂ _+ℤ_ (ap (_*ℤ_ (pos 3)) vma) (ap (_*ℤ_ (pos 3)) voids)) (ap (_*ℤ_ (pos 4)) density))
+    (ap₂ _+ℤ_ (ap₂ _+ℤ_ (ap (_*ℤ_ (pos of-vma)) vma) (ap (_*ℤ_ (pos of-voids)) voids)) (ap (_*ℤ_ (pos of-density)) density))
 
 pub weighted-spec : {M : Type 1} → statement M
 weighted-spec =

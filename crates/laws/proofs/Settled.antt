@@ -1,6 +1,6 @@
 -- Pay answers what documents 000 and 01 say of a payment, and they say it of no other: each test decides an order, and nearest is one number.
 use mathlib.Core.Path.{_≡_, refl, sym}
-use mathlib.Core.Bool.{Bool, true, false, _||_, false≢true, or-assoc}
+use mathlib.Core.Bool.{Bool, true, false, _||_, false≢true}
 use mathlib.Core.Logic.{_⊎_, inl, inr, ⊎-elim, _↔_}
 use Prim.Native.Nat.{ℕ}
 use native.Mathlib.Omega.{arith}
@@ -28,9 +28,13 @@ use Rattle.laws.proofs.HalfUp.{half-up-determined}
 tested : (z : ℤ) → (rejected z ≡ true) ↔ Below z
 tested z = (ltZ-true z (pos 5000), lt-ltZ)
 
-either : {A B : Type 0} (s t : Bool) → (s ≡ true) ↔ A → (t ≡ true) ↔ B → ((s || t) ≡ true) ↔ (A ⊎ B)
-either true t h k = (λ _. inl (h .0 refl), λ _. refl)
-either false t h k = (λ e. inr (k .0 e), ⊎-elim (λ a. absurd (false≢true (h .1 a))) (k .1))
+any-of : {A B C : Type 0} (s t u : Bool) → (s ≡ true) ↔ A → (t ≡ true) ↔ B → (u ≡ true) ↔ C → ((s || t || u) ≡ true) ↔ (A ⊎ B ⊎ C)
+any-of true t u h k l = (λ _. inl (h .0 refl), λ _. refl)
+any-of false true u h k l = (λ _. inr (inl (k .0 refl)), λ _. refl)
+any-of false false u h k l = (
+  λ e. inr (inr (l .0 e)),
+  ⊎-elim (λ a. absurd (false≢true (h .1 a))) (⊎-elim (λ b. absurd (false≢true (k .1 b))) (l .1)),
+)
 
 rejected-when : {so : Type 0} (t : Bool) → (t ≡ true) ↔ so → RejectedWhen so (verdict t)
 rejected-when true h = (λ _. h .0 refl, λ _. refl)
@@ -50,16 +54,13 @@ unfolding payment
 payment-is-settled a b c p q h =
     let at = h .percents in
     let low = ≤ℤ-trans (pos-mono {m = 0} (omega arith)) (composite-lies-between at .low) in
-    let x : Bool = rejected a in
-    let y : Bool = rejected b in
-    let z : Bool = rejected c in
     record {
       composite = composite-is-nearest a b c (at .vma .low) (at .voids .low) (at .density .low);
       pay = pay-is-nearest p q (composite (weighted a b c)) (h .price .low) (h .quantity .low) low;
-      vma = rejected-when x (tested a);
-      voids = rejected-when y (tested b);
-      density = rejected-when z (tested c);
-      lot = rw (or-assoc x y z) (rejected-when (x || (y || z)) (either x (y || z) (tested a) (either y z (tested b) (tested c))));
+      vma = rejected-when (rejected a) (tested a);
+      voids = rejected-when (rejected b) (tested b);
+      density = rejected-when (rejected c) (tested c);
+      lot = rejected-when (rejected a || rejected b || rejected c) (any-of (rejected a) (rejected b) (rejected c) (tested a) (tested b) (tested c));
     }
 
 -- No second payment is what the papers say.

@@ -10,6 +10,7 @@ import shutil
 import subprocess
 import sys
 import tempfile
+from contextlib import contextmanager
 from pathlib import Path
 
 from edits import edited, not_a_fact, read_edit, refusals
@@ -58,23 +59,30 @@ def judged(crate, laws, places, where):
     return ""
 
 
+@contextmanager
+def edited_copy(root, changes):
+    """A copy with the changes made, and their places; ValueError where one cannot be made."""
+    with tempfile.TemporaryDirectory() as folder:
+        where = Path(folder).resolve()
+        copy(root, where)
+        texts, places = edited(where, changes)
+        for path, text in texts.items():
+            (where / path).write_text(text, "utf-8")
+        yield where, places
+
+
 def plant(root, file):
     """Tries one edit: why it is not refused as it must be; empty where it is."""
     comment, words, changes = read_edit(file)
     if not (comment and words.get("check") and words.get("refused")):
         return "it wants a comment that says what it plants, a line `check: CRATE` and a line `refused: FILE..`"
-    with tempfile.TemporaryDirectory() as folder:
-        where = Path(folder).resolve()
-        copy(root, where)
-        try:
-            texts, places = edited(where, changes)
-        except ValueError as error:
-            return f"BAD EDIT: {error}"
-        if not all(re.match(r"crates/\w+/(?:src|specs)/", path) for path in texts):
-            return "BAD EDIT: it may change only src/ and specs/ of a crate"
-        for path, text in texts.items():
-            (where / path).write_text(text, "utf-8")
-        return judged(words["check"], words["refused"].split(), places, where)
+    if not all(re.match(r"crates/\w+/(?:src|specs)/", path) for path, _, _ in changes):
+        return "BAD EDIT: it may change only src/ and specs/ of a crate"
+    try:
+        with edited_copy(root, changes) as (where, places):
+            return judged(words["check"], words["refused"].split(), places, where)
+    except ValueError as error:
+        return f"BAD EDIT: {error}"
 
 
 def main():

@@ -8,8 +8,8 @@ import tempfile
 import unittest
 from pathlib import Path
 
-from edits import edited, read_edit
-from planted import ROOT, check, copy
+from edits import read_edit
+from planted import ROOT, check, edited_copy
 
 EDITS = sorted((ROOT / "must-not-compile").glob("*.edit"))
 
@@ -19,12 +19,7 @@ def judged(file):
     comment, words, changes = read_edit(file)
     if not (comment and words.get("check") and words.get("refused")):
         return "it wants a comment that says what it mixes, a line `check: CRATE` and a line `refused: WORDS`"
-    with tempfile.TemporaryDirectory() as folder:
-        where = Path(folder).resolve()
-        copy(ROOT, where)
-        texts, (place,) = edited(where, changes)
-        for path, text in texts.items():
-            (where / path).write_text(text, "utf-8")
+    with edited_copy(ROOT, changes) as (where, (place,)):
         _, said, _ = check(words["check"], where)
     errors = re.findall(r"^(\S+:)\d+: (error.*)", said, re.M)
     if errors != [(f"{where}/{place}", f"error[mismatched-types]: {words['refused']}")]:

@@ -16,14 +16,19 @@ ghost use Rattle.rules.specs.Refusals.{pair-out};
 ghost use Rattle.rules.specs.Answers.{mixture-said};
 ghost use Rattle.rules.specs.Entries.{mixture-says};
 
-// Lower and upper, a row for each line of the table: what VMA adds to its minimum and voids to their target, and then the limits of
-// density by mixture number.
+// Lower and upper, a row for each line of the table: offsets first, then limits by mixture number.
 const TABLE_1: [[i32; 2]; 6] = [
+    // VMA, from its minimum
     [-700, 3000],
+    // voids, from their target
     [-1350, 1350],
+    // density of IL-4.75
     [92500, 97000],
+    // of IL-19.0 and 25.0
     [92200, 97000],
+    // of SMA
     [93000, 98000],
+    // of all others
     [91500, 97000],
 ];
 

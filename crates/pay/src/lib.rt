@@ -23,9 +23,11 @@ pub struct PayRule;
 impl PayRule {
     // 53 percent.
     pub const BASE: i64 = 53;
+
     // The slope is one half: one over this.
     pub const SLOPE_OVER: i64 = 2;
 
+    // The weights are tenths.
     pub const WEIGHT_VMA: i64 = 3;
 
     pub const WEIGHT_VOIDS: i64 = 3;

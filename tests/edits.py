@@ -50,6 +50,8 @@ NO_FACT = (
     (r"\.rt:\S*: error: ", "a contract is ill-formed"),
     (r"` has no clause for ", "a definition is ill-formed"),
 )
+# A rewriting that finds nothing to rewrite: the text of the proof does not fit, which tells nothing of the fact.
+IDLE = re.compile(r"`rw`: no occurrence of|`simp`: no equation of the list")
 FOLLOWS = re.compile(r"` was not admitted \(|` cannot be unfolded because it was not admitted")
 
 
@@ -71,6 +73,9 @@ def not_a_fact(log, places=()):
     first = (refusals(log) or [""])[0]
     if any("/" + place in first + ":" for place in places if ".antt:" in place):
         return f"the edited text is itself ill-formed: {first}"
-    if all(map(FOLLOWS.search, errors)) and "it is not proved that" not in log:
+    own = [error for error in errors if not FOLLOWS.search(error)]
+    if not own and "it is not proved that" not in log:
         return "no fact was tried"
+    if own and all(map(IDLE.search, own)):
+        return f"a rewriting finds nothing to rewrite: {own[0][:300]}"
     return ""

@@ -199,6 +199,8 @@ FAULTS = {
         "an_unknown_name": (LOG, LAW, f"{HERE}specs/Sum.antt:12:42: error: `total`: `nope` is not in scope"),
         "a_text_that_cannot_be_read": (LOG, LAW, f"{HERE}specs/Sum.antt:13:1: error: the `(` at 12:36 is never closed (reached end of file)"),
         "a_contract_that_is_ill_formed": (LOG, LAW, f"{HERE}src/lib.rt:27:26: error: `ensures-1`: expected type `ℕ`, but this has type `ℕ → ℕ`"),
+        "nothing_to_rewrite": (LOG, LAW, f"{HERE}proofs/Laws.antt:6:7: error: `law`: `rw`: no occurrence of the path's left endpoint in the goal"),
+        "nothing_to_simplify": (LOG, LAW, f"{HERE}proofs/Laws.antt:6:7: error: `law`: `simp`: no equation of the list has an instance in the goal"),
         "nothing_tried": (LOG, LAW, f"{HERE}specs/Sum.antt:11:12: `total` is not admitted: has-holes"),
         "an_old_text_that_is_not_there": (EDIT, "old: { 1 }", "old: { 7 }"),
         "no_replacement": (EDIT, "old: { 1 }\nnew: { 2 }\n", ""),

@@ -1,4 +1,4 @@
-"""Each mixing of two kinds of number, planted in a copy, is refused by the compiler, before anything is proved.
+"""Each mixing of two kinds of number, planted in a copy, is refused by the compiler.
 
 An edit is a file must-not-compile/LABEL.edit: a comment that says what stands where something else is meant,
 `check: CRATE`, `refused: WORDS` of the compiler, and the lines `file:`, `old:`, `new:`, with paths from the root.
@@ -14,17 +14,19 @@ from planted import ROOT, check, edited_copy
 EDITS = sorted((ROOT / "must-not-compile").glob("*.edit"))
 
 
-def judged(file):
-    """Why an edit is not refused as it must be; empty where it is."""
+def tried(file):
+    """An edit made in a copy: its words, what the check says, and where."""
     comment, words, changes = read_edit(file)
     if not (comment and words.get("check") and words.get("refused")):
-        return "it wants a comment that says what it mixes, a line `check: CRATE` and a line `refused: WORDS`"
+        raise ValueError("it wants a comment that says what it mixes, a line `check: CRATE` and a line `refused: WORDS`")
     with edited_copy(ROOT, changes) as (where, (place,)):
-        _, said, _ = check(words["check"], where)
-    errors = re.findall(r"^(\S+:)\d+: (error.*)", said, re.M)
-    if errors != [(f"{where}/{place}", f"error[mismatched-types]: {words['refused']}")]:
-        return f"the compiler does not say only this, at {place} {words['refused']}:\n{said[-2000:]}"
-    return ""
+        status, said, log = check(words["check"], where)
+    return words, status, said, log, f"{where}/{place}"
+
+
+def refused(said, status, crate):
+    """Whether the crate is what was refused."""
+    return status == 1 and re.search(rf"^rt: {crate} NOT PROVED \(exit 1,", said, re.M)
 
 
 class Kinds(unittest.TestCase):
@@ -34,28 +36,32 @@ class Kinds(unittest.TestCase):
         self.assertTrue(EDITS)
 
     def test_two_of_one_kind_are_not_told_apart(self):
-        """The compiler takes the PWL of one characteristic for another's; only the proof does not."""
+        """The compiler takes the PWL of one characteristic for another's; the proof does not."""
         with tempfile.TemporaryDirectory() as folder:
             file = Path(folder) / "swapped.edit"
             file.write_text("""The PWLs of VMA and voids are swapped.
 check: pay
-refused: expected `Hundredths`, found `Hundredths`
+refused: nothing
 file: crates/pay/src/lib.rt
 old: PayRule::weighted(vma, voids, density)
 new: PayRule::weighted(voids, vma, density)
 """, "utf-8")
-            self.assertIn("the compiler does not say only this", judged(file))
+            _, status, said, log, _ = tried(file)
+        self.assertTrue(refused(said, status, "pay"), said)
+        self.assertNotIn("error[", said)
+        self.assertRegex(log, r"proofs/paid/Proof\.antt:\S+ error: ")
 
 
-def refused(file):
+def mixed(file):
     def test(self):
-        if why := judged(file):
-            self.fail(why)
+        words, status, said, _, place = tried(file)
+        self.assertTrue(refused(said, status, words["check"]), said)
+        self.assertEqual(re.findall(r"^(\S*?)(?:\d+: )?(error.*)", said, re.M), [(place, f"error[mismatched-types]: {words['refused']}")], said)
     return test
 
 
 for edit in EDITS:
-    setattr(Kinds, f"test_{edit.stem}", refused(edit))
+    setattr(Kinds, f"test_{edit.stem}", mixed(edit))
 
 
 if __name__ == "__main__":

@@ -9,7 +9,6 @@ use rules::Evaluation;
 use rules::HundredthTons;
 use rules::Hundredths;
 use rules::PayAnswer;
-use rules::TwoHundredths;
 use rules::Verdict;
 
 fn show_verdict(name: &[u8], verdict: Verdict) {
@@ -68,16 +67,12 @@ pub(crate) fn worked_example(vma: Evaluation, voids: Evaluation, density: Evalua
     paid(b"Pay", pwl(vma), pwl(voids), pwl(density), 8000, 800000);
 }
 
-fn show_factor(name: &[u8], factor: TwoHundredths) {
-    number(name, factor.0);
-}
-
 // Document 000's own numbers for its example, whose percentages are rounded.
 pub(crate) fn document_000() {
     words(b"\nBy document 000's percentages\n");
-    show_factor(b"factors ", PayRule::factor(Hundredths(9800)));
-    show_factor(b" ", PayRule::factor(Hundredths(9200)));
-    show_factor(b" ", PayRule::factor(Hundredths(9300)));
+    number(b"factors ", PayRule::factor(Hundredths(9800)).0);
+    number(b" ", PayRule::factor(Hundredths(9200)).0);
+    number(b" ", PayRule::factor(Hundredths(9300)).0);
     words(b"\n");
     paid(b"98, 92 and 93 percent", 9800, 9200, 9300, 3500, 1000000);
 }
@@ -93,109 +88,68 @@ pub(crate) fn verdicts() {
 // Half a thousandth and half a cent go up.
 pub(crate) fn halves() {
     words(b"\nHalves\n");
-    paid(b"530.48 thousandths", 0, 0, 24, 0, 0);
+    paid(b"530.495 thousandths", 1, 0, 24, 0, 0);
     paid(b"530.5 thousandths", 0, 0, 25, 0, 0);
-    paid(b"5.4945 cents", 400, 400, 400, 1, 999);
+    paid(b"8.49999 cents", 2860, 2860, 2860, 1, 1263);
     paid(b"5.5 cents", 400, 400, 400, 1, 1000);
 }
 
 pub(crate) fn extremes() {
     words(b"\nLeast and most\n");
     paid(b"least", 0, 0, 0, 0, 0);
+    paid(b"greatest price", 5000, 5000, 5000, 10000000, 1);
+    paid(b"greatest quantity", 5000, 5000, 5000, 1, 100000000);
     paid(b"most", 10000, 10000, 10000, 10000000, 100000000);
+}
+
+fn vma(z: i64) {
+    number(b"VMA ", z);
+    paid(b"", z, 5000, 5000, 8000, 800000);
+}
+
+fn voids(z: i64) {
+    number(b"voids ", z);
+    paid(b"", 5000, z, 5000, 8000, 800000);
+}
+
+fn density(z: i64) {
+    number(b"density ", z);
+    paid(b"", 5000, 5000, z, 8000, 800000);
+}
+
+fn price(z: i64) {
+    number(b"price ", z);
+    paid(b"", 5000, 5000, 5000, z, 800000);
+}
+
+fn quantity(z: i64) {
+    number(b"quantity ", z);
+    paid(b"", 5000, 5000, 5000, 8000, z);
 }
 
 // Refusal 9: each of the five numbers out of its bounds by one, and at the ends of its type.
 pub(crate) fn refusals() {
     words(b"\nRefused pay\n");
-    paid(b"VMA -1", -1, 5000, 5000, 8000, 800000);
-    paid(b"VMA 10001", 10001, 5000, 5000, 8000, 800000);
-    paid(
-        b"VMA -9223372036854775808",
-        -9223372036854775808,
-        5000,
-        5000,
-        8000,
-        800000,
-    );
-    paid(
-        b"VMA 9223372036854775807",
-        9223372036854775807,
-        5000,
-        5000,
-        8000,
-        800000,
-    );
-    paid(b"voids -1", 5000, -1, 5000, 8000, 800000);
-    paid(b"voids 10001", 5000, 10001, 5000, 8000, 800000);
-    paid(
-        b"voids -9223372036854775808",
-        5000,
-        -9223372036854775808,
-        5000,
-        8000,
-        800000,
-    );
-    paid(
-        b"voids 9223372036854775807",
-        5000,
-        9223372036854775807,
-        5000,
-        8000,
-        800000,
-    );
-    paid(b"density -1", 5000, 5000, -1, 8000, 800000);
-    paid(b"density 10001", 5000, 5000, 10001, 8000, 800000);
-    paid(
-        b"density -9223372036854775808",
-        5000,
-        5000,
-        -9223372036854775808,
-        8000,
-        800000,
-    );
-    paid(
-        b"density 9223372036854775807",
-        5000,
-        5000,
-        9223372036854775807,
-        8000,
-        800000,
-    );
-    paid(b"price -1", 5000, 5000, 5000, -1, 800000);
-    paid(b"price 10000001", 5000, 5000, 5000, 10000001, 800000);
-    paid(
-        b"price -9223372036854775808",
-        5000,
-        5000,
-        5000,
-        -9223372036854775808,
-        800000,
-    );
-    paid(
-        b"price 9223372036854775807",
-        5000,
-        5000,
-        5000,
-        9223372036854775807,
-        800000,
-    );
-    paid(b"quantity -1", 5000, 5000, 5000, 8000, -1);
-    paid(b"quantity 100000001", 5000, 5000, 5000, 8000, 100000001);
-    paid(
-        b"quantity -9223372036854775808",
-        5000,
-        5000,
-        5000,
-        8000,
-        -9223372036854775808,
-    );
-    paid(
-        b"quantity 9223372036854775807",
-        5000,
-        5000,
-        5000,
-        8000,
-        9223372036854775807,
-    );
+    let least = -9223372036854775808;
+    let greatest = 9223372036854775807;
+    vma(-1);
+    vma(10001);
+    vma(least);
+    vma(greatest);
+    voids(-1);
+    voids(10001);
+    voids(least);
+    voids(greatest);
+    density(-1);
+    density(10001);
+    density(least);
+    density(greatest);
+    price(-1);
+    price(10000001);
+    price(least);
+    price(greatest);
+    quantity(-1);
+    quantity(100000001);
+    quantity(least);
+    quantity(greatest);
 }

@@ -16,10 +16,11 @@ use Rattle.rules.specs.declared.Totals.{Totals}
 use Rattle.rules.specs.declared.Thousandths.{Thousandths}
 use Rattle.rules.specs.declared.Limit.{Limit}
 use Rattle.rules.specs.declared.Limit.the-variants.{At}
+use Rattle.rules.specs.declared.Pair.{Pair}
 use Rattle.rules.specs.Units.{in-range}
 use Rattle.rules.specs.Lot.{most}
 use Rattle.rules.specs.Percent.{sum, squares, totals, spread}
-use Rattle.rules.specs.Refusals.{out-of-range, any-out}
+use Rattle.rules.specs.Refusals.{out-of-range, any-out, pair-out}
 use Rattle.laws.specs.Bounds.{Accepted, Bounded, SpreadInBounds}
 use Rattle.laws.proofs.Tests.{neither}
 use Rattle.laws.proofs.Spread.{spread-never-negative}
@@ -28,6 +29,17 @@ pub in-range-bound : (z : ℤ) → in-range z ≡ true → natAbs z ≤ 500000
 in-range-bound z e =
     let h : (leZ (negℤ (pos 500000)) z ≡ true) × (leZ z (pos 500000) ≡ true) = and-eq-true-iff (leZ (negℤ (pos 500000)) z) (leZ z (pos 500000)) .0 e in
     within {b = 500000} {z = z} (leZ-true _ _ (h .0)) (leZ-true _ _ (h .1))
+
+-- The two limits of a pair of which none is out of range.
+pub pair-parts : (p : Pair) → pair-out p ≡ false → (not (in-range (p .upper)) ≡ false) × (not (in-range (p .lower)) ≡ false)
+pair-parts p = neither (not (in-range (p .upper))) (not (in-range (p .lower)))
+
+-- How far a pair goes down and up from its number.
+abbrev pub below : (ℤ → Pair) → ℕ
+below pair = natAbs (pair (pos 0) .lower)
+
+abbrev pub above : (ℤ → Pair) → ℕ
+above pair = natAbs (pair (pos 0) .upper)
 
 -- The first of some readings in range, and the others.
 module _ (x : ℤ) (xs : List ℤ) (e : any-out (x ∷ xs) ≡ false) where

@@ -30,6 +30,7 @@ pub mod Composite
 pub mod Published
 pub mod HalfUp
 pub mod Settled
+pub mod PublishedLimits
 pub mod Taken
 pub mod InReach
 pub mod WiderPaid

@@ -1,6 +1,6 @@
 -- Pay is answered exactly for the numbers that document 01 names, and gives refusal 9 for all others.
-use mathlib.Core.Path.{_≡_, refl, _∙_}
-use mathlib.Core.Bool.{Bool, true, false, _||_}
+use mathlib.Core.Path.{_≡_, _∙_}
+use mathlib.Core.Bool.{Bool, false, _||_}
 use mathlib.Core.List.{[]}
 use lib.IntN.{ℤ, pos}
 use Rattle.rules.specs.Units.{hundred-percent}
@@ -11,8 +11,8 @@ use Rattle.rules.specs.Meets.{pay-meets}
 use Rattle.rules.specs.Entries.{pay-says}
 use Rattle.laws.specs.Payable.{Payable}
 use Rattle.laws.proofs.Tests.{neither}
-use Rattle.laws.proofs.Between.{not-outside, taken}
-use Rattle.laws.proofs.Ruled.{ruled-none, ruled-met, ruled-passed, none-met}
+use Rattle.laws.proofs.Between.{inside, not-outside}
+use Rattle.laws.proofs.Ruled.{ruled-none, ruled-passed, ruled-refused, none-met}
 
 module _ (vma voids density price quantity : ℤ) where
   -- Numbers to which the case does not apply are payable,
@@ -26,9 +26,9 @@ module _ (vma voids density price quantity : ℤ) where
       let three = neither (a || b) c (four .0) in
       let two = neither a b (three .0) in
       record {
-        percents = record { vma = not-outside hundred-percent vma (two .0); voids = not-outside hundred-percent voids (two .1); density = not-outside hundred-percent density (three .1) };
-        price = not-outside (pos 10000000) price (four .1);
-        quantity = not-outside (pos 100000000) quantity (all .1);
+        percents = record { vma = inside hundred-percent vma (two .0); voids = inside hundred-percent voids (two .1); density = inside hundred-percent density (three .1) };
+        price = inside (pos 10000000) price (four .1);
+        quantity = inside (pos 100000000) quantity (all .1);
       }
 
   pub payable : checked (pay-meets vma voids density price quantity) ≡ answers tt → Payable vma voids density price quantity
@@ -37,7 +37,7 @@ module _ (vma voids density price quantity : ℤ) where
 
   -- and to payable numbers it does not apply.
   passes : Payable vma voids density price quantity → pay-case vma voids density price quantity .applies ≡ false
-  passes h = rw (taken (h .percents .vma), taken (h .percents .voids), taken (h .percents .density), taken (h .price), taken (h .quantity))
+  passes h = rw (not-outside (h .percents .vma), not-outside (h .percents .voids), not-outside (h .percents .density), not-outside (h .price), not-outside (h .quantity))
 
   -- Pay is answered for PWLs from 0 to 10,000, a price from 0 to 10,000,000 and a quantity from 0 to 100,000,000,
   pub payable-is-paid : Payable vma voids density price quantity → pay-says vma voids density price quantity ≡ answers (payment vma voids density price quantity)
@@ -47,8 +47,4 @@ module _ (vma voids density price quantity : ℤ) where
   -- and refused with 9 for any other numbers.
   pub not-payable-is-refused : ¬ Payable vma voids density price quantity → pay-says vma voids density price quantity ≡ refused 9
   unfolding pay-says pay-meets
-  not-payable-is-refused h = by (pay-case vma voids density price quantity .applies) refl
-    where
-      by : (b : Bool) → pay-case vma voids density price quantity .applies ≡ b → pay-says vma voids density price quantity ≡ refused 9
-      by true e = ruled-met _ _ _ e
-      by false e = absurd (h (case-passed e))
+  not-payable-is-refused h = ruled-refused _ _ _ case-passed h

@@ -11,7 +11,7 @@ use Rattle.laws.specs.Published.{ratio, times, Same, HalfUp, published-f
 pub factor-is-published : (pwl : ℤ) → Same (ratio (factor pwl) 200) (published-factor (ratio pwl 100))
 unfolding factor
 factor-is-published pwl =
-    diff-eq ((nat 10600 ⊕ nat 1 ⊗ var pwl) ⊗ nat 1000) ((nat 53 ⊗ nat 1000 ⊕ nat 5 ⊗ var pwl ⊗ nat 1) ⊗ nat 200) (omega arith)
+    diff-eq ((nat _ ⊕ nat _ ⊗ var pwl) ⊗ nat 1000) ((nat 53 ⊗ nat 1000 ⊕ nat 5 ⊗ var pwl ⊗ nat 1) ⊗ nat 200) (omega arith)
 
 -- The composite is the thousandth nearest the weighted formula.
 pub composite-is-nearest :

@@ -68,6 +68,14 @@ none-met c cs = by (c .applies)
     by true e = absurd (let z : _≡_ {A = ℕ} 0 1 = cc in omega arith)
     by false e = (refl, e)
 
+-- A case is given where what it passes does not hold.
+pub ruled-refused : {A P : Type 0} (c : Case) (cs : List Case) (a : A) → (c .applies ≡ false → P) → ¬ P → ruled (c ∷ cs) a ≡ refused (c .number)
+ruled-refused {A} {P} c cs a h not = by (c .applies) refl
+  where
+    by : (b : Bool) → c .applies ≡ b → ruled (c ∷ cs) a ≡ refused (c .number)
+    by true e = ruled-met c cs a e
+    by false e = absurd (not (h e))
+
 -- ---- an entry that asks for the outcome first, and has values where none is refused
 
 module _ (cs : List Case) {o : Outcome} (e : outcome-said o ≡ checked cs) where

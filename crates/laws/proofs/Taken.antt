@@ -1,17 +1,15 @@
 -- The limits of a mixture are taken by an evaluation: offsets that put one out of range are refused, and each lower number is below its upper.
 use mathlib.Core.Path.{_≡_, refl, sym}
-use mathlib.Core.Bool.{false, not}
+use mathlib.Core.Bool.{false}
 use mathlib.Core.List.{[], _∷_}
-use Prim.Native.Nat.{zero, suc}
 use native.Mathlib.Omega.{arith}
-use lib.IntN.{ℤ, pos, negsuc}
+use lib.IntN.{ℤ, pos}
 use lib.Signed.{ltZ}
-use Rattle.integers.proofs.Difference.{var, nat, diff-le, arithℤ, _⊕_, _⊖_}
+use Rattle.integers.proofs.Difference.{var, nat, diff-le, _⊕_, _⊖_}
 use Rattle.integers.proofs.Order.{le-ltZ}
 use Rattle.rules.specs.declared.Pair.{Pair}
 use Rattle.rules.specs.declared.MixtureLimits.{MixtureLimits}
 use Rattle.rules.specs.declared.MixtureAnswer.{MixtureAnswer}
-use Rattle.rules.specs.Units.{in-range}
 use Rattle.rules.specs.Mixture.{vma-pair, voids-pair, density-pairs, density-pair, limits, mixture-limits}
 use Rattle.rules.specs.Refusals.{pair-out, mixture-case, offset-case}
 use Rattle.rules.specs.Meets.{mixture-meets}
@@ -20,22 +18,23 @@ use Rattle.rules.specs.Entries.{mixture-says}
 use Rattle.laws.specs.Between.{Between}
 use Rattle.laws.specs.Taken.{Taken}
 use Rattle.laws.proofs.Tests.{neither}
-use Rattle.laws.proofs.Between.{not-outside}
+use Rattle.laws.proofs.Bounds.{pair-parts, below, above}
+use Rattle.laws.proofs.Between.{inside, one-of-four}
 use Rattle.laws.proofs.Ruled.{ruled-answers, none-met}
 
 taken : (p : Pair) → pair-out p ≡ false → ltZ (p .upper) (p .lower) ≡ false → Taken (limits p)
 taken p near uncrossed =
-    let h = neither (not (in-range (p .upper))) (not (in-range (p .lower))) near in
+    let h = pair-parts p near in
     record { upper-near = h .0; lower-near = h .1; uncrossed = uncrossed }
 
 density-taken : (mixture : ℤ) → Between (pos 0) (pos 3) mixture → Taken (limits (density-pair mixture))
 unfolding density-pairs
-density-taken (pos zero) h = taken (density-pair (pos 0)) refl refl
-density-taken (pos (suc zero)) h = taken (density-pair (pos 1)) refl refl
-density-taken (pos (suc (suc zero))) h = taken (density-pair (pos 2)) refl refl
-density-taken (pos (suc (suc (suc zero)))) h = taken (density-pair (pos 3)) refl refl
-density-taken (pos (suc (suc (suc (suc n))))) h = absurd (omega arithℤ)
-density-taken (negsuc n) h = absurd (h .low .le)
+density-taken mixture h =
+    one-of-four h
+    (λ e. rw e (taken (density-pair (pos 0)) refl refl))
+    (λ e. rw e (taken (density-pair (pos 1)) refl refl))
+    (λ e. rw e (taken (density-pair (pos 2)) refl refl))
+    (λ e. rw e (taken (density-pair (pos 3)) refl refl))
 
 -- The limits that a lookup answers are such that an evaluation takes them.
 pub mixture-limits-are-taken :
@@ -46,9 +45,9 @@ mixture-limits-are-taken mixture minimum target l e =
     let given = ruled-answers _ (mixture-limits mixture minimum target) l (sym e) in
     let first = none-met (offset-case minimum target) (mixture-case mixture ∷ []) (given .0) in
     let near = neither (pair-out (vma-pair minimum)) (pair-out (voids-pair target)) (first .0) in
-    let number = not-outside (pos 3) mixture (none-met (mixture-case mixture) [] (first .1) .0) in
+    let number = inside (pos 3) mixture (none-met (mixture-case mixture) [] (first .1) .0) in
     rw (← given .1) (
-      taken (vma-pair minimum) (near .0) (le-ltZ (diff-le (var minimum ⊖ nat 700) (var minimum ⊕ nat 3000) (omega arith))),
-      taken (voids-pair target) (near .1) (le-ltZ (diff-le (var target ⊖ nat 1350) (var target ⊕ nat 1350) (omega arith))),
+      taken (vma-pair minimum) (near .0) (le-ltZ (diff-le (var minimum ⊖ nat (below vma-pair)) (var minimum ⊕ nat (above vma-pair)) (omega arith))),
+      taken (voids-pair target) (near .1) (le-ltZ (diff-le (var target ⊖ nat (below voids-pair)) (var target ⊕ nat (above voids-pair)) (omega arith))),
       density-taken mixture number,
     )

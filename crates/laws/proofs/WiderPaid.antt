@@ -17,7 +17,7 @@ use Rattle.laws.specs.RowRule.{RowRule}
 use Rattle.laws.specs.InPercent.{InPercent}
 use Rattle.laws.specs.Wider.{with-limits, UpperAsWide, LowerAsWide}
 use Rattle.laws.specs.Paid.{Characteristic, vma, voids, density, pay-says-of}
-use Rattle.laws.proofs.Between.{taken}
+use Rattle.laws.proofs.Between.{not-outside}
 use Rattle.laws.proofs.Ruled.{ruled-alike}
 use Rattle.laws.proofs.NoClamp.{pwl-in-percent}
 use Rattle.laws.proofs.Wider.{wider-is-not-lower}
@@ -44,11 +44,11 @@ pub percentages-are-paid-alike :
     bare (pay-says-of which pwl other another price quantity) ≡ bare (pay-says-of which pwl′ other another price quantity)
 unfolding pay-says pay-meets
 percentages-are-paid-alike vma pwl pwl′ x y price quantity h k =
-    ruled-alike (pay-meets pwl x y price quantity) (pay-meets pwl′ x y price quantity) _ _ (rw (taken h, taken k))
+    ruled-alike (pay-meets pwl x y price quantity) (pay-meets pwl′ x y price quantity) _ _ (rw (not-outside h, not-outside k))
 percentages-are-paid-alike voids pwl pwl′ x y price quantity h k =
-    ruled-alike (pay-meets x pwl y price quantity) (pay-meets x pwl′ y price quantity) _ _ (rw (taken h, taken k))
+    ruled-alike (pay-meets x pwl y price quantity) (pay-meets x pwl′ y price quantity) _ _ (rw (not-outside h, not-outside k))
 percentages-are-paid-alike density pwl pwl′ x y price quantity h k =
-    ruled-alike (pay-meets x y pwl price quantity) (pay-meets x y pwl′ price quantity) _ _ (rw (taken h, taken k))
+    ruled-alike (pay-meets x y pwl price quantity) (pay-meets x y pwl′ price quantity) _ _ (rw (not-outside h, not-outside k))
 
 -- Wider limits never lower the factor or the pay: the same readings of one characteristic under two pairs of limits that are both
 -- answered, the second at least as wide on each side, with the other two percentages, price and quantity the same.

@@ -11,6 +11,7 @@ pub mod Moved
 pub mod Paid
 pub mod Payable
 pub mod Published
+pub mod PublishedLimits
 pub mod Settled
 pub mod InReach
 pub mod Taken

@@ -53,13 +53,13 @@ fn pair(z: Thousandths, lower: i32, upper: i32) -> Pair
     }
 }
 
-fn vma(minimum: Thousandths) -> Pair
+fn vma_pair(minimum: Thousandths) -> Pair
     ensures { λ r. ⌜ r ≡ vma-pair (minimum .0) ⌝ }
 {
     pair(minimum, TABLE_1[VMA][0], TABLE_1[VMA][1])
 }
 
-fn voids(target: Thousandths) -> Pair
+fn voids_pair(target: Thousandths) -> Pair
     ensures { λ r. ⌜ r ≡ voids-pair (target .0) ⌝ }
 {
     pair(target, TABLE_1[VOIDS][0], TABLE_1[VOIDS][1])
@@ -75,7 +75,7 @@ fn density(mixture: usize) -> Limits
     }
 }
 
-fn out(pair: Pair) -> bool
+fn pair_out(pair: Pair) -> bool
     ensures { λ r. ⌜ r ≡ pair-out pair ⌝ }
 {
     !in_range(pair.upper) | !in_range(pair.lower)
@@ -96,9 +96,9 @@ fn limits(pair: Pair) -> Limits
 pub fn lookup(mixture: i64, minimum: Thousandths, target: Thousandths) -> MixtureAnswer
     ensures { λ r. ⌜ mixture-said r ≡ mixture-says mixture (minimum .0) (target .0) ⌝ }
 {
-    let vma = vma(minimum);
-    let voids = voids(target);
-    let far = out(vma) | out(voids);
+    let vma = vma_pair(minimum);
+    let voids = voids_pair(target);
+    let far = pair_out(vma) | pair_out(voids);
     let unknown = outside(3, mixture);
     if far {
         MixtureAnswer::Refused(Refusal::Range)

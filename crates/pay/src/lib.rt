@@ -8,6 +8,7 @@ use rules::PayAnswer;
 use rules::Payment;
 use rules::TwoHundredths;
 use rules::Verdict;
+use rules::Weighted;
 ghost use mathlib.Core.Path.{_≡_};
 ghost use lib.IntN.{pos};
 ghost use Rattle.rules.specs.Pay.{factor, weighted, composite, final-pay, rejected, verdict, payment};
@@ -42,21 +43,21 @@ impl PayRule {
         TwoHundredths(200 * PayRule::BASE + 200 / (100 * PayRule::SLOPE_OVER) * pwl.0)
     }
 
-    // W, the weighted sum of the three factors. Inner, as the other.
-    pub fn weighted(vma: Hundredths, voids: Hundredths, density: Hundredths) -> TwoHundredths
+    // W, the weighted sum of the three factors. Inner, as `factor`.
+    pub fn weighted(vma: Hundredths, voids: Hundredths, density: Hundredths) -> Weighted
         requires { ⌜ Percents (vma .0) (voids .0) (density .0) ⌝ }
         ensures { λ r. ⌜ r .0 ≡ weighted (vma .0) (voids .0) (density .0) ⌝ }
     {
         let a = PayRule::factor(vma);
         let b = PayRule::factor(voids);
         let c = PayRule::factor(density);
-        TwoHundredths(
+        Weighted(
             PayRule::WEIGHT_VMA * a.0 + PayRule::WEIGHT_VOIDS * b.0 + PayRule::WEIGHT_DENSITY * c.0,
         )
     }
 
     // (W + 100)/200, whole part: half goes up.
-    fn composite(w: TwoHundredths) -> Composite
+    fn composite(w: Weighted) -> Composite
         requires { ⌜ Between (pos 106000) (pos 206000) (w .0) ⌝ }
         ensures { λ r. ⌜ r .0 ≡ composite (w .0) ⌝ }
     {
@@ -79,10 +80,10 @@ fn rejected(pwl: Hundredths) -> bool
     pwl.0 < 5000
 }
 
-fn verdict(out: bool) -> Verdict
-    ensures { λ r. ⌜ r ≡ verdict out ⌝ }
+fn verdict(rejected: bool) -> Verdict
+    ensures { λ r. ⌜ r ≡ verdict rejected ⌝ }
 {
-    if out {
+    if rejected {
         Verdict::Rejected
     } else {
         Verdict::Accepted
@@ -101,15 +102,15 @@ fn paid(
     ensures { λ r. ⌜ r ≡ payment (vma .0) (voids .0) (density .0) (price .0) (quantity .0) ⌝ }
 {
     let composite = PayRule::composite(PayRule::weighted(vma, voids, density));
-    let vma_out = rejected(vma);
-    let voids_out = rejected(voids);
-    let density_out = rejected(density);
+    let vma_rejected = rejected(vma);
+    let voids_rejected = rejected(voids);
+    let density_rejected = rejected(density);
     Payment {
         composite: composite,
-        vma: verdict(vma_out),
-        voids: verdict(voids_out),
-        density: verdict(density_out),
-        lot: verdict(vma_out | voids_out | density_out),
+        vma: verdict(vma_rejected),
+        voids: verdict(voids_rejected),
+        density: verdict(density_rejected),
+        lot: verdict(vma_rejected | voids_rejected | density_rejected),
         pay: PayRule::final_pay(price, quantity, composite),
     }
 }

@@ -17,6 +17,9 @@ pub struct Hundredths(pub i64);
 // The pay factor of one characteristic, in 200ths of a percent.
 pub struct TwoHundredths(pub i64);
 
+// W, the weighted sum of three factors: in 2,000ths of a percent, since the weights are tenths.
+pub struct Weighted(pub i64);
+
 // A composite pay factor, in thousandths.
 pub struct Composite(pub i64);
 

@@ -1,18 +1,14 @@
 -- Four rows, each read by computation.
-use mathlib.Core.Path.{_≡_, refl}
-use Prim.Native.Nat.{ℕ, zero, suc, _≤_}
-use native.Mathlib.Omega.{arith}
+use mathlib.Core.Path.{refl, ap}
+use Prim.Native.Nat.{zero-le}
 use borrow.Author.Needs.{needs}
+use lib.IntN.{pos, natAbs}
+use Rattle.integers.proofs.Order.{pos-mono}
 use Rattle.rules.specs.Mixture.{density-pairs}
+use Rattle.laws.specs.Between.{Between}
+use Rattle.laws.proofs.Between.{one-of-four}
 use Rattle.mixture.proofs.density.Statement.{statement}
 use Rattle.mixture.proofs.density.Tie as tie
-
-one-of-four : {m : ℕ} {X : Type 0} → m ≤ 3 → (m ≡ 0 → X) → (m ≡ 1 → X) → (m ≡ 2 → X) → (m ≡ 3 → X) → X
-one-of-four {m = zero} h at-0 at-1 at-2 at-3 = at-0 refl
-one-of-four {m = suc zero} h at-0 at-1 at-2 at-3 = at-1 refl
-one-of-four {m = suc (suc zero)} h at-0 at-1 at-2 at-3 = at-2 refl
-one-of-four {m = suc (suc (suc zero))} h at-0 at-1 at-2 at-3 = at-3 refl
-one-of-four {m = suc (suc (suc (suc m)))} h at-0 at-1 at-2 at-3 = absurd (omega arith)
 
 add-t9 : tie.Need-add-t9
 add-t9 c = search needs
@@ -40,7 +36,9 @@ index-2-t30 c = search needs
 
 returns : tie.Need-returns
 unfolding density-pairs
-returns c = one-of-four (c .before .before .pre) (λ e. rw e refl) (λ e. rw e refl) (λ e. rw e refl) (λ e. rw e refl)
+returns c =
+    let h : Between (pos 0) (pos 3) (pos (c .before .before .args .mixture)) = record { low = pos-mono zero-le; high = pos-mono (c .before .before .pre) } in
+    one-of-four h (λ e. rw (ap natAbs e) refl) (λ e. rw (ap natAbs e) refl) (λ e. rw (ap natAbs e) refl) (λ e. rw (ap natAbs e) refl)
 
 pub density-spec : {M : Type 1} → statement M
 density-spec = tie.close (tie.spec add-t9 mul-t10 index-1-t15 index-2-t15 add-t24 mul-t25 index-1-t30 index-2-t30 returns)

@@ -1,6 +1,6 @@
 -- A limit in range fits 32 bits.
 use mathlib.Core.Path.{_≡_, refl}
-use mathlib.Core.Bool.{false, not}
+use mathlib.Core.Bool.{false}
 use Prim.Native.Nat.{_≤_}
 use native.Mathlib.Omega.{arith}
 use lib.IntN.{natAbs}
@@ -12,8 +12,7 @@ use Rattle.integers.proofs.Magnitude.{fits-of}
 use Rattle.rules.specs.declared.Pair.{Pair}
 use Rattle.rules.specs.Units.{in-range}
 use Rattle.rules.specs.Refusals.{pair-out}
-use Rattle.laws.proofs.Bounds.{in-range-bound}
-use Rattle.laws.proofs.Tests.{neither}
+use Rattle.laws.proofs.Bounds.{in-range-bound, pair-parts}
 use Rattle.mixture.proofs.limits.Statement.{statement}
 use Rattle.mixture.proofs.limits.Tie as tie
 
@@ -25,7 +24,7 @@ record Fits (pair : Pair) : Type 0 where
 
 fits : (pair : Pair) → pair-out pair ≡ false → Fits pair
 fits pair e =
-    let h = neither (not (in-range (pair .upper))) (not (in-range (pair .lower))) e in
+    let h = pair-parts pair e in
     let above : natAbs (pair .upper) ≤ 500000 = in-range-bound (pair .upper) (not-false (in-range (pair .upper)) (h .0)) in
     let below : natAbs (pair .lower) ≤ 500000 = in-range-bound (pair .lower) (not-false (in-range (pair .lower)) (h .1)) in
     record {

@@ -13,7 +13,7 @@ use Rattle.rules.specs.Meets.{mixture-meets}
 use Rattle.rules.specs.Entries.{mixture-says}
 use Rattle.integers.proofs.Magnitude.{natAbs-pos}
 use Rattle.laws.specs.Between.{Between}
-use Rattle.laws.proofs.Between.{not-outside, between-magnitude}
+use Rattle.laws.proofs.Between.{inside, between-magnitude}
 use Rattle.laws.proofs.Ruled.{ruled-none, ruled-met, ruled-passed}
 use Rattle.laws.proofs.Tests.{neither}
 use Rattle.mixture.proofs.lookup.Statement.{statement}
@@ -25,49 +25,49 @@ answer l = answers l
 -- ---- the tests
 
 module _ (c : tie.After-outside) where
-  offset : (c .before .before .out .result || c .before .out2 .result) ≡ offset-case (c .before .before .before .before .before .args .minimum .0) (c .before .before .before .before .before .args .target .0) .applies
+  offset : (c .before .before .pair-out .result || c .before .pair-out2 .result) ≡ offset-case (c .before .before .before .before .before .args .minimum .0) (c .before .before .before .before .before .args .target .0) .applies
   offset =
       ap₂ _||_
-      (c .before .before .out .ensures ∙ ap pair-out (c .before .before .before .before .vma .ensures))
-      (c .before .out2 .ensures ∙ ap pair-out (c .before .before .before .voids .ensures))
+      (c .before .before .pair-out .ensures ∙ ap pair-out (c .before .before .before .before .vma-pair .ensures))
+      (c .before .pair-out2 .ensures ∙ ap pair-out (c .before .before .before .voids-pair .ensures))
 
   number : c .outside .result ≡ mixture-case (c .before .before .before .before .before .args .mixture) .applies
   number = let f = c .before .before .before .before .before .fits .mixture in simp toZ-ofZ at (c .outside .ensures)
 
 -- ---- what passes them
 
-passed : (c : tie.Else2) → (c .before .before .before .before .out .result || c .before .before .before .out2 .result ≡ false) × (c .before .before .outside .result ≡ false)
+passed : (c : tie.Else2) → (c .before .before .before .before .pair-out .result || c .before .before .before .pair-out2 .result ≡ false) × (c .before .before .outside .result ≡ false)
 passed c = (c .before .if1 .left, c .if2 .left)
 
-in-range : (c : tie.Else2) → (pair-out (c .before .before .before .before .before .before .vma .result) ≡ false) × (pair-out (c .before .before .before .before .before .voids .result) ≡ false)
-in-range c =
+near : (c : tie.Else2) → (pair-out (c .before .before .before .before .before .before .vma-pair .result) ≡ false) × (pair-out (c .before .before .before .before .before .voids-pair .result) ≡ false)
+near c =
     let tests = c .before .before in
-    let h = neither (tests .before .before .out .result) (tests .before .out2 .result) (passed c .0) in
-    (sym (tests .before .before .out .ensures) ∙ h .0, sym (tests .before .out2 .ensures) ∙ h .1)
+    let h = neither (tests .before .before .pair-out .result) (tests .before .pair-out2 .result) (passed c .0) in
+    (sym (tests .before .before .pair-out .ensures) ∙ h .0, sym (tests .before .pair-out2 .ensures) ∙ h .1)
 
 row : (c : tie.Else2) → Between (pos 0) (pos 3) (c .before .before .before .before .before .before .before .args .mixture)
-row c = not-outside (pos 3) _ (sym (number (c .before .before)) ∙ passed c .1)
+row c = inside (pos 3) _ (sym (number (c .before .before)) ∙ passed c .1)
 
-vma-requires : tie.Need-vma-requires
-vma-requires c κs = search needs
+vma-pair-requires : tie.Need-vma-pair-requires
+vma-pair-requires c κs = search needs
 
-voids-requires : tie.Need-voids-requires
-voids-requires c κs = search needs
+voids-pair-requires : tie.Need-voids-pair-requires
+voids-pair-requires c κs = search needs
 
-out-requires : tie.Need-out-requires
-out-requires c κs = search needs
+pair-out-requires : tie.Need-pair-out-requires
+pair-out-requires c κs = search needs
 
-out-requires-2 : tie.Need-out-requires-2
-out-requires-2 c κs = search needs
+pair-out-requires-2 : tie.Need-pair-out-requires-2
+pair-out-requires-2 c κs = search needs
 
 outside-requires : tie.Need-outside-requires
 outside-requires c κs = search needs
 
 limits-requires : tie.Need-limits-requires
-limits-requires c κs = in-range c .0
+limits-requires c κs = near c .0
 
 limits-requires-2 : tie.Need-limits-requires-2
-limits-requires-2 c κs = in-range (c .before) .1
+limits-requires-2 c κs = near (c .before) .1
 
 cast-density : tie.Need-cast-density
 cast-density c =
@@ -99,8 +99,8 @@ returns-3 c =
     let found = c .before .before .before in
     let tests = found .before .before in
     let f = tests .before .before .before .before .before .fits .mixture in
-    let vma = c .before .before .limits .ensures ∙ ap limits (tests .before .before .before .before .vma .ensures) in
-    let voids = c .before .limits2 .ensures ∙ ap limits (tests .before .before .before .voids .ensures) in
+    let vma = c .before .before .limits .ensures ∙ ap limits (tests .before .before .before .before .vma-pair .ensures) in
+    let voids = c .before .limits2 .ensures ∙ ap limits (tests .before .before .before .voids-pair .ensures) in
     let density = (simp toZ-ofZ at (c .density .ensures)) ∙ ap (λ z. limits (density-pair z)) (natAbs-pos (row found .low)) in
     ap answer (λ i. record { vma = vma i; voids = voids i; density = density i })
     ∙ sym
@@ -112,10 +112,10 @@ pub lookup-spec : {M : Type 1} → statement M
 lookup-spec =
     tie.close
     (tie.spec
-    vma-requires
-    voids-requires
-    out-requires
-    out-requires-2
+    vma-pair-requires
+    voids-pair-requires
+    pair-out-requires
+    pair-out-requires-2
     outside-requires
     limits-requires
     limits-requires-2

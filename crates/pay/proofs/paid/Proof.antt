@@ -48,14 +48,14 @@ final-pay-requires c κs =
 returns : tie.Need-returns
 unfolding payment
 returns c =
-    let density-out = c .before .before .before .before .before in
-    let voids-out = density-out .before in
-    let vma-out = voids-out .before in
-    let composed = vma-out .before in
+    let density-tested = c .before .before .before .before .before in
+    let voids-tested = density-tested .before in
+    let vma-tested = voids-tested .before in
+    let composed = vma-tested .before in
     let args = composed .before .before .args in
-    let vma : vma-out .rejected .result ≡ rejected (args .vma .0) = vma-out .rejected .ensures in
-    let voids : voids-out .rejected2 .result ≡ rejected (args .voids .0) = voids-out .rejected2 .ensures in
-    let density : density-out .rejected3 .result ≡ rejected (args .density .0) = density-out .rejected3 .ensures in
+    let vma : vma-tested .rejected .result ≡ rejected (args .vma .0) = vma-tested .rejected .ensures in
+    let voids : voids-tested .rejected2 .result ≡ rejected (args .voids .0) = voids-tested .rejected2 .ensures in
+    let density : density-tested .rejected3 .result ≡ rejected (args .density .0) = density-tested .rejected3 .ensures in
     let vma-said = c .before .before .before .before .verdict .ensures ∙ ap verdict vma in
     let voids-said = c .before .before .before .verdict2 .ensures ∙ ap verdict voids in
     let density-said = c .before .before .verdict3 .ensures ∙ ap verdict density in

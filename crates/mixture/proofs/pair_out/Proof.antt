@@ -5,8 +5,8 @@ use borrow.Author.Needs.{needs}
 use mir.Syntax.{w64}
 use mir.Val.{SFits}
 use mir.Facts.{toZ-ofZ}
-use Rattle.mixture.proofs.out.Statement.{statement}
-use Rattle.mixture.proofs.out.Tie as tie
+use Rattle.mixture.proofs.pair_out.Statement.{statement}
+use Rattle.mixture.proofs.pair_out.Tie as tie
 
 in-range-requires : tie.Need-in-range-requires
 in-range-requires c κs = search needs
@@ -21,5 +21,5 @@ returns c =
     let lower : SFits w64 (pair .lower) = record { sfits = c .before .struct-told2 .given .0 .1 } in
     ap₂ _||_ (ap not (simp toZ-ofZ at (c .before .before .in-range .ensures))) (ap not (simp toZ-ofZ at (c .in-range2 .ensures)))
 
-pub out-spec : {M : Type 1} → statement M
-out-spec = tie.close (tie.spec in-range-requires in-range-requires-2 returns)
+pub pair-out-spec : {M : Type 1} → statement M
+pair-out-spec = tie.close (tie.spec in-range-requires in-range-requires-2 returns)

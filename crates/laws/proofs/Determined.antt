@@ -27,8 +27,12 @@ deviation-determined xs r q e f = deviation-injective r q (e ∙ sym f)
 pub evaluation-determined : (lot : Lot) (r q : Evaluation) → evaluation-said r ≡ evaluation-says lot → evaluation-said q ≡ evaluation-says lot → r ≡ q
 evaluation-determined lot r q e f = evaluation-injective r q (e ∙ sym f)
 
-pub pay-determined : (vma voids density price quantity : ℤ) (r q : PayAnswer) → pay-said r ≡ pay-says vma voids density price quantity → pay-said q ≡ pay-says vma voids density price quantity → r ≡ q
+pub pay-determined :
+    (vma voids density price quantity : ℤ) (r q : PayAnswer) →
+    pay-said r ≡ pay-says vma voids density price quantity → pay-said q ≡ pay-says vma voids density price quantity → r ≡ q
 pay-determined vma voids density price quantity r q e f = pay-injective r q (e ∙ sym f)
 
-pub mixture-determined : (mixture minimum target : ℤ) (r q : MixtureAnswer) → mixture-said r ≡ mixture-says mixture minimum target → mixture-said q ≡ mixture-says mixture minimum target → r ≡ q
+pub mixture-determined :
+    (mixture minimum target : ℤ) (r q : MixtureAnswer) →
+    mixture-said r ≡ mixture-says mixture minimum target → mixture-said q ≡ mixture-says mixture minimum target → r ≡ q
 mixture-determined mixture minimum target r q e f = mixture-injective r q (e ∙ sym f)

@@ -1,6 +1,6 @@
 -- The two tests, in the order of the cases that a lookup can meet; what passes them is in range and has a row.
 use mathlib.Core.Path.{_≡_, sym, ap, ap₂, _∙_}
-use mathlib.Core.Bool.{false, _||_}
+use mathlib.Core.Bool.{Bool, false, _||_}
 use borrow.Author.Needs.{needs}
 use lib.IntN.{pos}
 use lib.Signed.{yes-nonNeg}
@@ -25,27 +25,37 @@ answer l = answers l
 -- ---- the tests
 
 module _ (c : tie.After-outside) where
-  offset : (c .before .before .pair-out .result || c .before .pair-out2 .result) ≡ offset-case (c .before .before .before .before .before .args .minimum .0) (c .before .before .before .before .before .args .target .0) .applies
+  abbrev start : tie.Start
+  start = c .before .before .before .before .before
+
+  -- what the first test answers
+  abbrev far : Bool
+  far = c .before .before .pair-out .result || c .before .pair-out2 .result
+
+  offset : far ≡ offset-case (start .args .minimum .0) (start .args .target .0) .applies
   offset =
       ap₂ _||_
       (c .before .before .pair-out .ensures ∙ ap pair-out (c .before .before .before .before .vma-pair .ensures))
       (c .before .pair-out2 .ensures ∙ ap pair-out (c .before .before .before .voids-pair .ensures))
 
-  number : c .outside .result ≡ mixture-case (c .before .before .before .before .before .args .mixture) .applies
-  number = let f = c .before .before .before .before .before .fits .mixture in simp toZ-ofZ at (c .outside .ensures)
+  number : c .outside .result ≡ mixture-case (start .args .mixture) .applies
+  number = let f = start .fits .mixture in simp toZ-ofZ at (c .outside .ensures)
 
 -- ---- what passes them
 
-passed : (c : tie.Else2) → (c .before .before .before .before .pair-out .result || c .before .before .before .pair-out2 .result ≡ false) × (c .before .before .outside .result ≡ false)
+passed : (c : tie.Else2) → (far (c .before .before) ≡ false) × (c .before .before .outside .result ≡ false)
 passed c = (c .before .if1 .left, c .if2 .left)
 
-near : (c : tie.Else2) → (pair-out (c .before .before .before .before .before .before .vma-pair .result) ≡ false) × (pair-out (c .before .before .before .before .before .voids-pair .result) ≡ false)
+near :
+    (c : tie.Else2) →
+    (pair-out (c .before .before .before .before .before .before .vma-pair .result) ≡ false)
+    × (pair-out (c .before .before .before .before .before .voids-pair .result) ≡ false)
 near c =
     let tests = c .before .before in
     let h = neither (tests .before .before .pair-out .result) (tests .before .pair-out2 .result) (passed c .0) in
     (sym (tests .before .before .pair-out .ensures) ∙ h .0, sym (tests .before .pair-out2 .ensures) ∙ h .1)
 
-row : (c : tie.Else2) → Between (pos 0) (pos 3) (c .before .before .before .before .before .before .before .args .mixture)
+row : (c : tie.Else2) → Between (pos 0) (pos 3) (start (c .before .before) .args .mixture)
 row c = inside (pos 3) _ (sym (number (c .before .before)) ∙ passed c .1)
 
 vma-pair-requires : tie.Need-vma-pair-requires
@@ -71,14 +81,16 @@ limits-requires-2 c κs = near (c .before) .1
 
 cast-density : tie.Need-cast-density
 cast-density c =
-    let h = row (c .before .before) in
-    let f = c .before .before .before .before .before .before .before .before .before .fits .mixture in
+    let found = c .before .before in
+    let h = row found in
+    let f = start (found .before .before) .fits .mixture in
     simp toZ-ofZ (yes-nonNeg (h .low), fits-below {n = 3} tt (between-magnitude h))
 
 density-requires : tie.Need-density-requires
 density-requires c κs =
-    let f = c .before .before .before .before .before .before .before .before .before .fits .mixture in
-    simp toZ-ofZ (between-magnitude (row (c .before .before)))
+    let found = c .before .before in
+    let f = start (found .before .before) .fits .mixture in
+    simp toZ-ofZ (between-magnitude (row found))
 
 returns : tie.Need-returns
 unfolding mixture-says mixture-meets
@@ -98,7 +110,7 @@ unfolding mixture-says mixture-meets mixture-limits
 returns-3 c =
     let found = c .before .before .before in
     let tests = found .before .before in
-    let f = tests .before .before .before .before .before .fits .mixture in
+    let f = start tests .fits .mixture in
     let vma = c .before .before .limits .ensures ∙ ap limits (tests .before .before .before .before .vma-pair .ensures) in
     let voids = c .before .limits2 .ensures ∙ ap limits (tests .before .before .before .voids-pair .ensures) in
     let density = (simp toZ-ofZ at (c .density .ensures)) ∙ ap (λ z. limits (density-pair z)) (natAbs-pos (row found .low)) in

@@ -36,7 +36,9 @@ verdict-requires-4 : tie.Need-verdict-requires-4
 verdict-requires-4 c κs = search needs
 
 -- the composite that was computed
-is-composite : (c : tie.After-composite) → c .composite .result .0 ≡ composite (weighted (c .before .before .args .vma .0) (c .before .before .args .voids .0) (c .before .before .args .density .0))
+is-composite :
+    (c : tie.After-composite) →
+    c .composite .result .0 ≡ composite (weighted (c .before .before .args .vma .0) (c .before .before .args .voids .0) (c .before .before .args .density .0))
 is-composite c = c .composite .ensures ∙ ap composite (c .before .weighted .ensures)
 
 final-pay-requires : tie.Need-final-pay-requires

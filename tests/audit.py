@@ -270,8 +270,18 @@ def edits_differ(root):
     return found
 
 
+def edits_are_listed(root):
+    """docs/PROMISES.md lists every edit that must be refused, by the proofs or by the compiler."""
+    file = root / "docs/PROMISES.md"
+    listed = set(re.findall(r"[\w/]+", file.read_text("utf-8"))) if file.exists() else set()
+    labels = [(f"{crate}/{label}", edit) for crate, label, edit in edits_of(root)]
+    labels += [(edit.stem, edit) for folder in ("must-fail", "must-not-compile") for edit in sorted((root / folder).glob("*.edit"))]
+    return [f"{edit.relative_to(root)}: docs/PROMISES.md does not list it" for label, edit in labels if label not in listed]
+
+
 RULES = [promises_are_made, entries_ask_nothing, entries_exist, exports_are_entries, symbols_mean_the_librarys,
-         imports_are_used, no_hole_is_left, edits_are_refused_for_a_fact, edits_say_what_they_plant, edits_differ]
+         imports_are_used, no_hole_is_left, edits_are_refused_for_a_fact, edits_say_what_they_plant, edits_differ,
+         edits_are_listed]
 
 
 def main():

@@ -100,8 +100,8 @@ module _ (n : ℕ) where
 
 | entry | definition | promise | must-fail edits |
 |---|---|---|---|
-| `toy::Pair::first` | total | it is the first | one_more |
-| `toy::toy_mean` | total | it is the mean | one_more |
+| `toy::Pair::first` | total | it is the first | toy/one_more, toy/one_less |
+| `toy::toy_mean` | total | it is the mean | toy/one_more |
 
 | other | table |
 |---|---|
@@ -147,7 +147,7 @@ FAULTS = {
         "another_type": (PROMISES, "`toy::Pair::first`", "`toy::Pear::first`"),
     },
     "exports_are_entries": {
-        "a_row_that_is_missing": (PROMISES, "| `toy::toy_mean` | total | it is the mean | one_more |\n", ""),
+        "a_row_that_is_missing": (PROMISES, "| `toy::toy_mean` | total | it is the mean | toy/one_more |\n", ""),
         "a_row_with_no_code": (PROMISES, "| `toy::toy_mean` |", "| toy::toy_mean |"),
     },
     "symbols_mean_the_librarys": {
@@ -214,6 +214,13 @@ FAULTS = {
     "edits_differ": {
         "the_same_text": (EDIT, "new: { 2 }", "new: { 0 }"),
         "the_same_change": (EDIT, "old: { 1 }\nnew: { 2 }", "old: as usize { 1 }\nnew: as usize { 0 }"),
+    },
+    "edits_are_listed": {
+        "an_edit_of_a_crate": (PROMISES, ", toy/one_less", ""),
+        "another_crate": (PROMISES, ", toy/one_less", ", joy/one_less"),
+        "a_longer_label": (PROMISES, "toy/one_less", "toy/one_less_here"),
+        "an_edit_of_a_definition": ("must-fail/one_less.edit", None, "# a row is one too low\n"),
+        "a_mixing_of_kinds": ("must-not-compile/mean_for_row.edit", None, "# a mean stands for a row\n"),
     },
 }
 

@@ -1,13 +1,13 @@
 -- The mixture lookup answers exactly for a minimum and a target in reach and a mixture number from 0 to 3; else it gives refusal 5, or 9.
 use mathlib.Core.Path.{_≡_, _∙_}
-use mathlib.Core.Bool.{false, not, and-eq-true-iff}
+use mathlib.Core.Bool.{false, not}
 use Prim.Native.Nat.{ℕ, _+_, _≤_}
 use native.Mathlib.Omega.{arith}
 use borrow.Author.Tests.{not-false}
-use lib.IntN.{ℤ, pos, negℤ}
-use lib.Signed.{leZ}
-use Rattle.integers.proofs.Difference.{Diff, var, nat, diff-le, le-diff, arithℤ, ⊝_, _⊕_, _⊖_}
-use Rattle.integers.proofs.Order.{leZ-true, le-leZ}
+use lib.IntN.{ℤ, pos, natAbs}
+use Rattle.integers.proofs.Difference.{Diff, var, nat, diff-le, arithℤ, ⊝_, _⊕_, _⊖_}
+use Rattle.integers.proofs.Order.{le-leZ}
+use Rattle.integers.proofs.Magnitude.{diff-within, within-diff, within-low, within-high}
 use Rattle.rules.specs.Units.{in-range}
 use Rattle.rules.specs.Said.{refused, answers, ruled}
 use Rattle.rules.specs.Mixture.{vma-pair, voids-pair, mixture-limits}
@@ -17,19 +17,17 @@ use Rattle.rules.specs.Entries.{mixture-says}
 use Rattle.laws.specs.Between.{Between}
 use Rattle.laws.specs.InReach.{InReach}
 use Rattle.laws.proofs.Tests.{neither}
-use Rattle.laws.proofs.Bounds.{pair-parts, below, above}
+use Rattle.laws.proofs.Bounds.{in-range-bound, pair-parts, below, above}
 use Rattle.laws.proofs.Ruled.{ruled-passed, ruled-refused}
 use Rattle.laws.proofs.Between.{inside, not-outside}
 
 -- A number in range is from −500,000 to 500,000, and back.
 module _ {z : ℤ} {p q : ℕ} (d : Diff z p q) where
-  near : not (in-range z) ≡ false → (q ≤ p + 500000) × (p ≤ q + 500000)
-  near e =
-      let h = and-eq-true-iff (leZ (negℤ (pos 500000)) z) (leZ z (pos 500000)) .0 (not-false (in-range z) e) in
-      omega (arith, le-diff (⊝ nat 500000) d (leZ-true _ _ (h .0)), le-diff d (nat 500000) (leZ-true _ _ (h .1)))
+  near : not (in-range z) ≡ false → (p ≤ q + 500000) × (q ≤ p + 500000)
+  near e = within-diff d (in-range-bound z (not-false (in-range z) e))
 
-  not-far : (q ≤ p + 500000) × (p ≤ q + 500000) → not (in-range z) ≡ false
-  not-far h = rw (le-leZ (diff-le (⊝ nat 500000) d (omega arith)), le-leZ (diff-le d (nat 500000) (omega arith)))
+  not-far : (p ≤ q + 500000) × (q ≤ p + 500000) → not (in-range z) ≡ false
+  not-far h = let small : natAbs z ≤ 500000 = diff-within d h in rw (le-leZ (within-low z small), le-leZ (within-high z small))
 
 module _ (mixture minimum target : ℤ) where
   -- A minimum and a target to which the case does not apply are in reach,

@@ -39,5 +39,11 @@ pub mod EvaluationAnswers
 pub mod TurnedAnswers
 pub mod MovedAnswers
 pub mod PayAnswers
+pub mod Spelled
+pub mod HeadAccepted
+pub mod AbsentLimits
+pub mod Records
+pub mod Returns
+pub mod RecordAnswers
 pub mod Deviation
 pub mod Desk

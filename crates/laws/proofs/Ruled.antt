@@ -1,7 +1,7 @@
 -- The first case that applies, a case at a time; and whether there is one has nothing to do with the values.
 use mathlib.Core.Path.{_≡_, refl, sym, ap, _∙_}
 use mathlib.Core.Bool.{Bool, true, false, cond}
-use mathlib.Core.List.{List, [], _∷_}
+use mathlib.Core.List.{List, [], _∷_, _++_}
 use Prim.Native.Nat.{ℕ}
 use native.Mathlib.Omega.{arith}
 use Rattle.rules.specs.declared.Outcome.{Outcome}
@@ -75,6 +75,35 @@ ruled-refused {A} {P} c cs a h not = by (c .applies) refl
     by : (b : Bool) → c .applies ≡ b → ruled (c ∷ cs) a ≡ refused (c .number)
     by true e = ruled-met c cs a e
     by false e = absurd (not (h e))
+
+-- What the first cases say, and what the later ones do where none of them is given.
+abbrev before : {A : Type 0} → Said A → Said (Unit {0}) → Said A
+before later (refused k) = refused k
+before later (answers u) = later
+
+ruled-append : {A : Type 0} (cs ds : List Case) (a : A) → ruled (cs ++ ds) a ≡ before (ruled ds a) (checked cs)
+unfolding ruled
+ruled-append [] ds a = refl
+ruled-append (c ∷ cs) ds a = by (c .applies) (ruled-append cs ds a)
+  where
+    by : (b : Bool) → ruled (cs ++ ds) a ≡ before (ruled ds a) (checked cs) → cond b (refused (c .number)) (ruled (cs ++ ds) a) ≡ before (ruled ds a) (cond b (refused (c .number)) (checked cs))
+    by true later = refl
+    by false later = later
+
+-- Cases one after the other: one that is given among the first is given, and where none is, the later ones decide.
+pub ruled-first : {A : Type 0} (cs ds : List Case) (a : A) {k : ℕ} → checked cs ≡ refused k → ruled (cs ++ ds) a ≡ refused k
+ruled-first cs ds a e = ruled-append cs ds a ∙ ap (before (ruled ds a)) e
+
+pub ruled-later : {A : Type 0} (cs ds : List Case) (a : A) → checked cs ≡ answers tt → ruled (cs ++ ds) a ≡ ruled ds a
+ruled-later cs ds a e = ruled-append cs ds a ∙ ap (before (ruled ds a)) e
+
+-- and where none is given of all, none is of either part
+pub none-of-either : (cs ds : List Case) → checked (cs ++ ds) ≡ answers tt → (checked cs ≡ answers tt) × (checked ds ≡ answers tt)
+none-of-either cs ds e = by (checked cs) (sym (ruled-append cs ds tt) ∙ e)
+  where
+    by : (s : Said (Unit {0})) → before (checked ds) s ≡ answers tt → (s ≡ answers tt) × (checked ds ≡ answers tt)
+    by (refused k) h = absurd (let z : _≡_ {A = ℕ} 0 1 = cc in omega arith)
+    by (answers u) h = (refl, h)
 
 -- ---- an entry that asks for the outcome first, and has values where none is refused
 

@@ -15,4 +15,6 @@ pub mod PublishedLimits
 pub mod Settled
 pub mod InReach
 pub mod Taken
+pub mod Bytes
+pub mod Head
 pub mod Desk

@@ -2,6 +2,7 @@
 mod row;
 mod side;
 
+use places::numbers;
 use readings::spread;
 use readings::totals;
 use rules::Evaluation;
@@ -9,17 +10,14 @@ use rules::HUNDRED_PERCENT;
 use rules::HeldLot;
 use rules::Hundredths;
 use rules::Limit;
-use rules::MOST;
 use rules::Outcome;
 use rules::Percentages;
-use rules::Refusal;
-use rules::Thousandths;
 use rules::Totals;
 use side::lower_side;
 use side::upper_side;
 ghost use mathlib.Core.Path.{_≡_};
 ghost use mathlib.Core.Bool.{false};
-ghost use Rattle.rules.specs.Lot.{plain, lot-of, lot-in};
+ghost use Rattle.rules.specs.Lot.{lot-of, lot-in};
 ghost use Rattle.rules.specs.Table.{table-106-1};
 ghost use Rattle.rules.specs.Percent.{nearest, within};
 ghost use Rattle.rules.specs.Refusals.{out-of-range};
@@ -60,33 +58,19 @@ pub fn evaluate(readings: &[i32], upper: Limit, lower: Limit) -> Evaluation
     }
 }
 
-// The places of a lot in memory, as plain numbers.
-fn numbers(readings: [Thousandths; MOST]) -> [i32; MOST]
-    ensures { λ r. ⌜ r ≡ plain readings ⌝ }
-{
-    let mut numbers = [0; MOST];
-    let mut i = 0;
-    while i < MOST {
-        let reading = readings[i];
-        let number = reading.0;
-        numbers[i] = number;
-        i += 1;
-    }
-    numbers
-}
-
 // Direct evaluation, of a lot in memory.
 pub fn evaluate_held(lot: HeldLot) -> Evaluation
     ensures { λ r. ⌜ evaluation-said r ≡ evaluation-says (lot-in lot) ⌝ }
 {
-    let count = lot.count as usize;
-    if MOST < count {
-        Evaluation::Refused(Refusal::Count)
-    } else {
-        let readings = lot.readings;
-        let upper = lot.upper;
-        let lower = lot.lower;
-        let numbers = numbers(readings);
-        evaluate(&numbers[..count], upper, lower)
+    match refusals::held(lot) {
+        Outcome::Refused(refusal) => Evaluation::Refused(refusal),
+        Outcome::Answers => {
+            let count = lot.count as usize;
+            let readings = lot.readings;
+            let upper = lot.upper;
+            let lower = lot.lower;
+            let numbers = numbers(readings);
+            Evaluation::Answers(percentages(totals(&numbers[..count]), upper, lower))
+        }
     }
 }

@@ -1,6 +1,8 @@
 // The refusal table of document 01, as tests: what an entry does not answer, and by which refusal.
+use places::numbers;
 use rules::Cents;
 use rules::HUNDRED_PERCENT;
+use rules::HeldLot;
 use rules::HundredthTons;
 use rules::Hundredths;
 use rules::Limit;
@@ -10,12 +12,13 @@ use rules::Refusal;
 ghost use mathlib.Core.Path.{_≡_};
 ghost use Rattle.rules.specs.Units.{in-range};
 ghost use Rattle.rules.specs.Said.{checked};
-ghost use Rattle.rules.specs.Lot.{lot-of};
+ghost use Rattle.rules.specs.Lot.{lot-of, lot-in};
 ghost use Rattle.rules.specs.Refusals.{allowed, out-of-range, any-out, range-case, none, crossed, outside, pay-case};
 ghost use Rattle.rules.specs.Meets.{readings-meet, lot-meets, evaluation-meets, pay-meets};
 ghost use Rattle.rules.specs.Answers.{outcome-said};
 
-fn allowed(n: usize) -> bool
+// n is 2 to 10.
+pub fn allowed(n: usize) -> bool
     ensures { λ r. ⌜ r ≡ allowed n ⌝ }
 {
     (2 <= n) & (n <= MOST)
@@ -116,6 +119,22 @@ pub fn evaluation(readings: &[i32], upper: Limit, lower: Limit) -> Outcome
         lot(readings, upper, lower)
     } else {
         Outcome::Refused(Refusal::Count)
+    }
+}
+
+// The same of a lot in memory, whose count may be above what it can hold.
+pub fn held(lot: HeldLot) -> Outcome
+    ensures { λ r. ⌜ outcome-said r ≡ checked (evaluation-meets (lot-in lot)) ⌝ }
+{
+    let count = lot.count as usize;
+    if MOST < count {
+        Outcome::Refused(Refusal::Count)
+    } else {
+        let readings = lot.readings;
+        let upper = lot.upper;
+        let lower = lot.lower;
+        let numbers = numbers(readings);
+        evaluation(&numbers[..count], upper, lower)
     }
 }
 

@@ -78,8 +78,11 @@ bare (refused k) = refused k
 bare (answers a) = answers tt
 
 -- whether it was read, or the refusal, beside that lot
+abbrev pub beside : Said Lot → ReadSaid
+beside said = record { said = bare said; lot = held said }
+
 abbrev pub read-leaves : List ℕ → ReadSaid
-read-leaves bs = record { said = bare (read-says bs); lot = held (read-says bs) }
+read-leaves bs = beside (read-says bs)
 
 -- the number of bytes written
 unfoldable pub write-says : Lot → List ℕ → Said ℕ

@@ -29,14 +29,17 @@ evaluation-meets lot = count-case (lot .n) ∷ lot-meets lot
 unfoldable pub row-meets : List ℕ → Lot → List Case
 row-meets bs lot = bytes-count-case bs ∷ lot-meets lot
 
+-- what a record can meet before its lot: 1 to 4
+abbrev pub head-meets : List ℕ → List Case
+head-meets bs = size-case bs ∷ version-case bs ∷ flags-case bs ∷ record-count-case bs ∷ []
+
 -- reading: 1 to 7
 unfoldable pub read-meets : List ℕ → List Case
-read-meets bs =
-    size-case bs ∷ version-case bs ∷ flags-case bs ∷ record-count-case bs ∷ lot-meets (lot-of-record bs)
+read-meets bs = head-meets bs ++ lot-meets (lot-of-record bs)
 
 -- writing: 4 to 8
 unfoldable pub write-meets : Lot → ℕ → List Case
-write-meets lot room = count-case (lot .n) ∷ lot-meets lot ++ (room-case room (length (record-of lot)) ∷ [])
+write-meets lot room = evaluation-meets lot ++ (room-case room (length (record-of lot)) ∷ [])
 
 -- pay: 9
 unfoldable pub pay-meets : ℤ → ℤ → ℤ → ℤ → ℤ → List Case

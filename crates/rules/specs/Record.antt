@@ -110,11 +110,14 @@ abbrev pub limit-bytes : Limit → List ℕ
 limit-bytes Absent = replicate 4 0
 limit-bytes (At z) = in-four (z .0)
 
+-- the 13 bytes before the readings
+unfoldable pub head-of : ℕ → Limit → Limit → List ℕ
+head-of n upper lower =
+    spell 2 (length-of n) ++
+    (1 ∷ (bit upper + 2 * bit lower) ∷ []) ++
+    limit-bytes upper ++
+    limit-bytes lower ++
+    (n ∷ [])
+
 unfoldable pub record-of : Lot → List ℕ
-record-of lot =
-    spell 2 (length-of (lot .n)) ++
-    (1 ∷ (bit (lot .upper) + 2 * bit (lot .lower)) ∷ []) ++
-    limit-bytes (lot .upper) ++
-    limit-bytes (lot .lower) ++
-    (lot .n ∷ []) ++
-    in-fours (lot .readings)
+record-of lot = head-of (lot .n) (lot .upper) (lot .lower) ++ in-fours (lot .readings)

@@ -11,14 +11,10 @@ use lib.Signed.{ltZ, mag, nonNeg, yes-nonNeg}
 use mir.Syntax.{w64}
 use mir.Val.{Fits, SFits}
 use mir.Facts.{toZ-ofZ, fits-natAbs}
-use Rattle.integers.proofs.Difference.{var, nat, diff-eq, _⊖_}
+use Rattle.integers.proofs.Magnitude.{minus-one-less-negative}
 use Rattle.integers.proofs.Order.{ltZ-false}
 use Rattle.readings.proofs.magnitude.Statement.{statement}
 use Rattle.readings.proofs.magnitude.Tie as tie
-
-below : (n : ℤ) → ltZ n (pos 0) ≡ true → negsuc 0 -ℤ n ≡ pos (mag n)
-below (pos n) e = absurd (omega (arith, ltb-true n 0 e))
-below (negsuc n) e = diff-eq (var (negsuc 0) ⊖ var (negsuc n)) (nat n) (omega arith)
 
 one-more : (n : ℤ) → ltZ n (pos 0) ≡ true → mag n + 1 ≡ natAbs n
 one-more (pos n) e = absurd (omega (arith, ltb-true n 0 e))
@@ -33,7 +29,7 @@ record Short (z d : ℤ) : Type 0 where
 short : (z : ℤ) → SFits w64 z → ltZ z (pos 0) ≡ true → Short z (negsuc 0 -ℤ z)
 short z f e =
     let m : SFits w64 (pos (mag z)) = record { sfits = f .sfits } in
-    subst⁻¹ (Short z) (below z e)
+    subst⁻¹ (Short z) (minus-one-less-negative z e)
     (record {
       fits = m;
       cast = (tt, fits-natAbs tt m);

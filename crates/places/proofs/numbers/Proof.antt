@@ -1,34 +1,27 @@
 -- The loop has copied the first i places.
-use mathlib.Core.Path.{_≡_, refl, sym, ap₂, _∙_}
-use mathlib.Core.List.{List, [], _∷_, _++_}
-use Prim.Native.Nat.{ℕ, suc, _-_, _≤_, _<_}
+use mathlib.Core.Path.{_≡_, refl, sym, _∙_}
+use mathlib.Core.List.{List}
+use Prim.Native.Nat.{ℕ, _-_, _≤_}
 use native.Mathlib.Numerals.{add-one}
 use native.Mathlib.Omega.{arith}
 use lib.IntN.{ℤ, pos}
-use lib.ListN.{length, length-map, length-set, List·getD-map, take, getD, set}
-use lib.Seq.{take-all, take-suc, take-suc-set}
+use lib.ListN.{length, length-map, length-set, take, getD}
+use lib.Seq.{take-all}
 use mir.Syntax.{w32}
 use mir.Val.{SFits}
 use mir.Facts.{toZ-ofZ}
 use Rattle.rules.specs.declared.Thousandths.{Thousandths}
 use Rattle.rules.specs.Units.{thousandths}
 use Rattle.rules.specs.Lot.{most, plain}
-use Rattle.quality.proofs.numbers.Statement.{statement}
-use Rattle.quality.proofs.numbers.Tie as tie
+use Rattle.laws.proofs.Lists.{made-suc}
+use Rattle.places.proofs.numbers.Statement.{statement}
+use Rattle.places.proofs.numbers.Tie as tie
 
 abbrev Inv-loop : tie.InvT-loop
 Inv-loop readings numbers₀ i₀ numbers i = (i ≤ most) × (length numbers ≡ most) × (take i numbers ≡ take i (plain readings))
 
 abbrev μ-loop : tie.MeasureT-loop
 μ-loop readings numbers₀ i₀ numbers i = most - i
-
--- One place more.
-copied : (xs : List Thousandths) (ys : List ℤ) (i : ℕ) → i < length xs → i < length ys → take i ys ≡ take i (plain xs) → take (suc i) (set ys i (getD xs i (thousandths (pos 0)) .0)) ≡ take (suc i) (plain xs)
-copied xs ys i h k e =
-    let there : i < length (plain xs) = rw (length-map xs (λ (x : Thousandths). x .0)) h in
-    take-suc-set ys i (getD xs i (thousandths (pos 0)) .0) k
-    ∙ ap₂ (λ (zs : List ℤ) (z : ℤ). zs ++ (z ∷ [])) e (sym (List·getD-map (λ (x : Thousandths). x .0) xs i (thousandths (pos 0))))
-    ∙ sym (take-suc (plain xs) i (pos 0) there)
 
 loop-holds : tie.Need-loop-holds Inv-loop μ-loop
 loop-holds c = (omega arith, refl, refl)
@@ -59,7 +52,7 @@ loop-again c =
     let inv = c .before .before .before .loop .inv in
     let size : length xs ≡ most = c .before .before .before .before .good .0 .1 .0 .1 in
     let f : SFits w32 (getD xs i (thousandths (pos 0)) .0) = record { sfits = c .struct-told .given .0 .1 } in
-    simp toZ-ofZ (omega arith, length-set ys i _ ∙ inv .1, rw (add-one i) (copied xs ys i (omega arith) (omega arith) (inv .2)))
+    simp toZ-ofZ (omega arith, length-set ys i _ ∙ inv .1, rw (add-one i) (made-suc (λ (x : Thousandths). x .0) xs ys i (thousandths (pos 0)) (omega arith) (omega arith) (inv .2)))
 
 returns : tie.Need-returns Inv-loop μ-loop
 returns c =

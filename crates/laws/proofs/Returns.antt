@@ -1,0 +1,104 @@
+-- The record's two returns: a lot that is written reads back as the same lot, and a record that is accepted is written again as the same
+-- bytes. So no lot has two records.
+use mathlib.Core.Path.{_≡_, refl, sym, ap, _∙_}
+use mathlib.Core.List.{List, [], _∷_, _++_, map}
+use Prim.Native.Nat.{ℕ, _≤_}
+use borrow.Author.Tests.{le-ltb, le-leb}
+use lib.IntN.{ℤ}
+use lib.ListN.{length, take, drop}
+use lib.Seq.{take-at}
+use Rattle.rules.specs.declared.Thousandths.{Thousandths}
+use Rattle.rules.specs.Units.{thousandths}
+use Rattle.rules.specs.Said.{Said, answers, ruled, checked}
+use Rattle.rules.specs.Lot.{Lot, most, plain, lot-in}
+use Rattle.rules.specs.Record.{n-field, head-size, lot-of-record, record-of}
+use Rattle.rules.specs.Refusals.{count-case, room-case}
+use Rattle.rules.specs.Meets.{head-meets, lot-meets, evaluation-meets, read-meets, write-meets}
+use Rattle.rules.specs.Entries.{read-says, held, write-says, written, after-write}
+use Rattle.laws.specs.Moved.{Counted}
+use Rattle.laws.specs.Bytes.{Bytes}
+use Rattle.laws.specs.Head.{HeadAccepted}
+use Rattle.laws.proofs.Ruled.{ruled-none, ruled-passed, given, ruled-given, ruled-answers, none-met, ruled-later, none-of-either}
+use Rattle.laws.proofs.Accepted.{lot-accepted}
+use Rattle.laws.proofs.Spelled.{length-fours}
+use Rattle.laws.proofs.HeadAccepted.{head-accepted}
+use Rattle.laws.proofs.Records.{lot-of-its-record, head-passes, record-of-its-lot}
+
+-- Of a record that is read: its first 13 bytes are not refused, its lot is not after its count, and that is the lot.
+read-parts : (bs : List ℕ) (lot : Lot) → read-says bs ≡ answers lot → HeadAccepted bs × (checked (lot-meets (lot-of-record bs)) ≡ answers tt) × (lot-of-record bs ≡ lot)
+unfolding read-says read-meets
+read-parts bs lot e =
+    let r = ruled-answers (read-meets bs) (lot-of-record bs) lot e in
+    let parts = none-of-either (head-meets bs) (lot-meets (lot-of-record bs)) (r .0) in
+    (head-accepted bs (parts .0), parts .1, r .1)
+
+-- The first places of what is held are the readings.
+places-back : (xs : List ℤ) (rest : List Thousandths) → take (length xs) (plain (map thousandths xs ++ rest)) ≡ xs
+places-back [] rest = refl
+places-back (x ∷ xs) rest = ap (λ (ys : List ℤ). x ∷ ys) (places-back xs rest)
+
+-- ---- over the definitions
+
+pub written-lot-reads-back : (lot : Lot) → Counted lot → checked (evaluation-meets lot) ≡ answers tt → read-says (record-of lot) ≡ answers lot
+unfolding read-says read-meets evaluation-meets
+written-lot-reads-back lot counted e =
+    let ok = lot-accepted lot e in
+    let size = counted (ok .few) in
+    ruled-later (head-meets (record-of lot)) _ _ (head-passes lot size ok)
+    ∙ ap (λ (l : Lot). ruled (lot-meets l) l) (lot-of-its-record lot size ok)
+    ∙ ruled-given (lot-meets lot) lot
+    ∙ ap (given lot) (none-met (count-case (lot .n)) (lot-meets lot) e .1)
+
+-- a lot that was read is no lot that evaluation or writing refuses, its readings are as many as it says,
+pub read-is-accepted : (bs : List ℕ) (lot : Lot) → read-says bs ≡ answers lot → (checked (evaluation-meets lot) ≡ answers tt) × (length (lot .readings) ≡ lot .n)
+unfolding evaluation-meets lot-of-record
+read-is-accepted bs lot e =
+    let r = read-parts bs lot e in
+    let n : ℕ = n-field bs in
+    rw (← r .2) (
+      ruled-passed (count-case n) _ tt (rw (le-leb 2 n (r .0 .least), le-leb n most (r .0 .few))) ∙ r .1,
+      length-fours n (drop head-size bs),
+    )
+
+-- and it stands in memory as it was read
+pub read-is-held : (bs : List ℕ) (lot : Lot) → read-says bs ≡ answers lot → lot-in (held (read-says bs)) ≡ lot
+unfolding held
+read-is-held bs lot e =
+    let size = read-is-accepted bs lot e .1 in
+    rw (e, ← size, places-back (lot .readings))
+
+pub read-record-is-its-own : (bs : List ℕ) (lot : Lot) → Bytes bs → read-says bs ≡ answers lot → record-of lot ≡ bs
+read-record-is-its-own bs lot h e =
+    let r = read-parts bs lot e in
+    ap record-of (sym (r .2)) ∙ record-of-its-lot bs h (r .0)
+
+pub no-two-records : (bs cs : List ℕ) (lot : Lot) → Bytes bs → Bytes cs → read-says bs ≡ answers lot → read-says cs ≡ answers lot → bs ≡ cs
+no-two-records bs cs lot h k e f = sym (read-record-is-its-own bs lot h e) ∙ read-record-is-its-own cs lot k f
+
+-- ---- in a lent slice
+
+pub write-reads-back : (lot : Lot) (out : List ℕ) (size : ℕ) → Counted lot → write-says lot out ≡ answers size → read-says (take size (after-write lot out)) ≡ answers lot
+unfolding write-says write-meets written
+write-reads-back lot out size counted e =
+    let r = ruled-answers (write-meets lot (length out)) (length (record-of lot)) size e in
+    let ok = none-of-either (evaluation-meets lot) (room-case (length out) (length (record-of lot)) ∷ []) (r .0) in
+    ap (λ (s : Said ℕ). read-says (take size (written (record-of lot) out s))) e
+    ∙ ap read-says (take-at (record-of lot) (drop (length (record-of lot)) out) size (r .1))
+    ∙ written-lot-reads-back lot counted (ok .0)
+
+pub read-writes-back :
+    (bs out : List ℕ) (lot : Lot) → Bytes bs → length bs ≤ length out →
+    read-says bs ≡ answers lot →
+    (write-says lot out ≡ answers (length bs)) × (after-write lot out ≡ bs ++ drop (length bs) out)
+unfolding write-says write-meets written
+read-writes-back bs out lot h room e = (said, ap (written (record-of lot) out) said ∙ ap (λ (cs : List ℕ). cs ++ drop (length cs) out) own)
+  where
+    own : record-of lot ≡ bs
+    own = read-record-is-its-own bs lot h e
+
+    said : write-says lot out ≡ answers (length bs)
+    said =
+        ruled-later (evaluation-meets lot) _ _ (read-is-accepted bs lot e .0)
+        ∙ ruled-passed (room-case (length out) (length (record-of lot))) _ _ (le-ltb (length out) (length (record-of lot)) (rw own room))
+        ∙ ruled-none _
+        ∙ ap (λ (cs : List ℕ). answers (length cs)) own

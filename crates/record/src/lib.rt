@@ -1,0 +1,153 @@
+// The lot record, read and written.
+mod head;
+mod number;
+
+use head::HEAD;
+use head::head;
+use head::head_of;
+use number::signed;
+use number::spell;
+use number::unsigned;
+use number::word;
+use places::thousandths;
+use rules::HeldLot;
+use rules::Limit;
+use rules::MOST;
+use rules::Outcome;
+use rules::ReadAnswer;
+use rules::Refusal;
+use rules::Thousandths;
+use rules::WriteAnswer;
+ghost use mathlib.Core.Path.{_≡_};
+ghost use mathlib.Core.List.{_++_};
+ghost use Prim.Native.Nat.{_+_, _*_, _-_, _≤_};
+ghost use lib.IntN.{pos};
+ghost use lib.ListN.{length, take, replicate};
+ghost use mir.Syntax.{w32};
+ghost use mir.Val.{toZ};
+ghost use Rattle.rules.specs.Said.{ruled};
+ghost use Rattle.rules.specs.Lot.{most, lot-in};
+ghost use Rattle.rules.specs.Record.{head-size, fours, limit-of, lot-of-record, record-of};
+ghost use Rattle.rules.specs.Refusals.{told};
+ghost use Rattle.rules.specs.Meets.{lot-meets};
+ghost use Rattle.rules.specs.Answers.{read-said, write-said};
+ghost use Rattle.rules.specs.Entries.{beside, read-leaves, write-says, after-write};
+ghost use Rattle.laws.specs.Head.{HeadAccepted};
+
+const LONGEST: usize = HEAD + 4 * MOST;
+
+fn limit(present: bool, x: u32) -> Limit
+    ensures { λ r. ⌜ r ≡ limit-of present (toZ w32 x) ⌝ }
+{
+    if present {
+        Limit::At(Thousandths(signed(x)))
+    } else {
+        Limit::Absent
+    }
+}
+
+// So many numbers of four bytes each, and zeros after them.
+fn fours(bytes: &[u8], n: usize) -> [i32; MOST]
+    requires { ⌜ (n ≤ most) × (4 * n ≤ length (now bytes)) ⌝ }
+    ensures { λ r. ⌜ r ≡ fours n (now (bytes .entry)) ++ replicate (most - n) (pos 0) ⌝ }
+{
+    let mut numbers = [0; MOST];
+    let mut i = 0;
+    while i < n {
+        numbers[i] = signed(word(bytes, 4 * i));
+        i += 1;
+    }
+    numbers
+}
+
+// A refusal, beside a blank lot.
+fn refused(refusal: Refusal) -> ReadAnswer
+    ensures { λ r. ⌜ read-said r ≡ beside (told refusal) ⌝ }
+{
+    ReadAnswer {
+        said: Outcome::Refused(refusal),
+        lot: HeldLot {
+            upper: Limit::Absent,
+            lower: Limit::Absent,
+            count: 0,
+            readings: [Thousandths(0); MOST],
+        },
+    }
+}
+
+// The lot of a record whose first 13 bytes are not refused.
+fn lot(bytes: &[u8]) -> ReadAnswer
+    requires { ⌜ HeadAccepted (now bytes) ⌝ }
+    ensures { λ r. ⌜ read-said r ≡ beside (ruled (lot-meets (lot-of-record (now (bytes .entry)))) (lot-of-record (now (bytes .entry)))) ⌝ }
+{
+    let n = bytes[12] as usize;
+    let upper = limit(bytes[3] % 2 == 1, word(bytes, 4));
+    let lower = limit(bytes[3] / 2 % 2 == 1, word(bytes, 8));
+    let numbers = fours(&bytes[HEAD..], n);
+    match refusals::lot(&numbers[..n], upper, lower) {
+        Outcome::Refused(refusal) => refused(refusal),
+        Outcome::Answers => ReadAnswer {
+            said: Outcome::Answers,
+            lot: HeldLot {
+                upper: upper,
+                lower: lower,
+                count: n as u32,
+                readings: thousandths(numbers),
+            },
+        },
+    }
+}
+
+// The lot of a record, which must fill its slice.
+pub fn read(bytes: &[u8]) -> ReadAnswer
+    ensures { λ r. ⌜ read-said r ≡ read-leaves (now (bytes .entry)) ⌝ }
+{
+    match head(bytes) {
+        Outcome::Refused(refusal) => refused(refusal),
+        Outcome::Answers => lot(bytes),
+    }
+}
+
+// The record of a lot that is not refused, and zeros after it.
+fn record_of(lot: HeldLot) -> [u8; LONGEST]
+    requires { ⌜ lot .count ≤ most ⌝ }
+    ensures { λ r. ⌜ take (head-size + 4 * lot .count) r ≡ record-of (lot-in lot) ⌝ }
+{
+    let n = lot.count as usize;
+    let upper = lot.upper;
+    let lower = lot.lower;
+    let readings = lot.readings;
+    let head = head_of(lot.count, upper, lower);
+    let mut whole = [0; LONGEST];
+    bytes::copy(&head, &mut whole);
+    let mut i = 0;
+    while i < n {
+        let reading = readings[i];
+        let four = spell(unsigned(reading.0));
+        let at = HEAD + 4 * i;
+        whole[at] = four[0];
+        whole[at + 1] = four[1];
+        whole[at + 2] = four[2];
+        whole[at + 3] = four[3];
+        i += 1;
+    }
+    whole
+}
+
+// The record of a lot in memory, from the start of a lent slice; what lies past it stays.
+pub fn write(lot: HeldLot, out: &mut [u8]) -> WriteAnswer
+    ensures { λ r. ⌜ (write-said r ≡ write-says (lot-in lot) (now (out .entry))) × (now (out .exit) ≡ after-write (lot-in lot) (now (out .entry))) ⌝ }
+{
+    match refusals::held(lot) {
+        Outcome::Refused(refusal) => WriteAnswer::Refused(refusal),
+        Outcome::Answers => {
+            let size = HEAD + 4 * lot.count as usize;
+            if out.len() < size {
+                WriteAnswer::Refused(Refusal::Room)
+            } else {
+                let whole = record_of(lot);
+                WriteAnswer::Answers(bytes::copy(&whole[..size], out))
+            }
+        }
+    }
+}

@@ -1,6 +1,7 @@
 -- A promise determines the answer: two answers that meet it are equal, whatever came in.
 use mathlib.Core.Path.{_≡_, sym, _∙_}
 use mathlib.Core.List.{List}
+use Prim.Native.Nat.{ℕ}
 use lib.IntN.{ℤ}
 use Rattle.rules.specs.declared.Outcome.{Outcome}
 use Rattle.rules.specs.declared.MeanAnswer.{MeanAnswer}
@@ -8,11 +9,13 @@ use Rattle.rules.specs.declared.DeviationAnswer.{DeviationAnswer}
 use Rattle.rules.specs.declared.Evaluation.{Evaluation}
 use Rattle.rules.specs.declared.PayAnswer.{PayAnswer}
 use Rattle.rules.specs.declared.MixtureAnswer.{MixtureAnswer}
+use Rattle.rules.specs.declared.ReadAnswer.{ReadAnswer}
+use Rattle.rules.specs.declared.WriteAnswer.{WriteAnswer}
 use Rattle.rules.specs.Said.{Case, checked}
 use Rattle.rules.specs.Lot.{Lot}
-use Rattle.rules.specs.Answers.{outcome-said, mean-said, deviation-said, evaluation-said, pay-said, mixture-said}
-use Rattle.rules.specs.Entries.{mean-says, deviation-says, evaluation-says, pay-says, mixture-says}
-use Rattle.laws.proofs.Answers.{outcome-injective, mean-injective, deviation-injective, evaluation-injective, pay-injective, mixture-injective}
+use Rattle.rules.specs.Answers.{outcome-said, mean-said, deviation-said, evaluation-said, pay-said, mixture-said, read-said, write-said}
+use Rattle.rules.specs.Entries.{mean-says, deviation-says, evaluation-says, pay-says, mixture-says, read-leaves, write-says, after-write}
+use Rattle.laws.proofs.Answers.{outcome-injective, mean-injective, deviation-injective, evaluation-injective, pay-injective, mixture-injective, read-injective, write-injective}
 
 pub outcome-determined : (cases : List Case) (r q : Outcome) → outcome-said r ≡ checked cases → outcome-said q ≡ checked cases → r ≡ q
 outcome-determined cases r q e f = outcome-injective r q (e ∙ sym f)
@@ -26,6 +29,17 @@ deviation-determined xs r q e f = deviation-injective r q (e ∙ sym f)
 -- of a lent list of readings with two limits, and of a lot in memory
 pub evaluation-determined : (lot : Lot) (r q : Evaluation) → evaluation-said r ≡ evaluation-says lot → evaluation-said q ≡ evaluation-says lot → r ≡ q
 evaluation-determined lot r q e f = evaluation-injective r q (e ∙ sym f)
+
+-- and of a lot's record, the lot that is left in memory with it
+pub read-determined : (bs : List ℕ) (r q : ReadAnswer) → read-said r ≡ read-leaves bs → read-said q ≡ read-leaves bs → r ≡ q
+read-determined bs r q e f = read-injective r q (e ∙ sym f)
+
+-- and every byte of the slice that is lent
+pub write-determined :
+    (lot : Lot) (out : List ℕ) (r q : WriteAnswer) (after other : List ℕ) →
+    (write-said r ≡ write-says lot out) × (after ≡ after-write lot out) → (write-said q ≡ write-says lot out) × (other ≡ after-write lot out) →
+    (r ≡ q) × (after ≡ other)
+write-determined lot out r q after other e f = (write-injective r q (e .0 ∙ sym (f .0)), e .1 ∙ sym (f .1))
 
 pub pay-determined :
     (vma voids density price quantity : ℤ) (r q : PayAnswer) →

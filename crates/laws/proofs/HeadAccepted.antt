@@ -2,13 +2,12 @@
 use mathlib.Core.Path.{_≡_}
 use mathlib.Core.Bool.{Bool, false, not, _||_}
 use mathlib.Core.List.{List}
-use Prim.Native.Nat.{ℕ, _+_, _*_, _/_, _-_, _≤_, _<_}
+use Prim.Native.Nat.{ℕ, _/_, _-_, _≤_}
 use native.Mathlib.Omega.{arith}
 use borrow.Author.Tests.{ltb-false, eqb-true, not-false}
 use lib.Dec.{ltb, eqb}
 use lib.ListN.{length}
 use Rattle.rules.specs.Said.{answers, checked}
-use Rattle.rules.specs.Lot.{most}
 use Rattle.rules.specs.Record.{spelled, length-field, version-field, flags-field, n-field, upper-field, lower-field, has-upper, has-lower, head-size, length-of}
 use Rattle.rules.specs.Refusals.{size-case, version-case, flags-case, record-count-case, allowed}
 use Rattle.rules.specs.Meets.{head-meets}

@@ -45,5 +45,6 @@ pub mod AbsentLimits
 pub mod Records
 pub mod Returns
 pub mod RecordAnswers
+pub mod DeskRecord
 pub mod Deviation
 pub mod Desk

@@ -1,7 +1,7 @@
 -- The lots that the entries take, a lent list with two limits and a lot in memory: turned or moved they are such lots again.
 use mathlib.Core.Path.{_≡_, refl, ap}
 use mathlib.Core.List.{List, [], _∷_, map}
-use Prim.Native.Nat.{ℕ, zero, suc}
+use Prim.Native.Nat.{ℕ, zero, suc, _≤_}
 use native.Mathlib.Omega.{arith}
 use lib.IntN.{ℤ, negℤ, _+ℤ_}
 use lib.ListN.{length, length-map, take}
@@ -38,3 +38,8 @@ lot-of-counted upper lower xs few = refl
 
 pub lot-in-counted : (held : HeldLot) → length (held .readings) ≡ most → Counted (lot-in held)
 lot-in-counted held e few = length-take-le (held .count) (places held) (rw length-map (omega arith))
+
+-- The first places of a lot in memory as plain numbers, lent with its limits, are that lot.
+pub lent-places : (held : HeldLot) (numbers : List ℤ) → length numbers ≡ most → numbers ≡ places held → held .count ≤ most → lot-of (held .upper) (held .lower) (take (held .count) numbers) ≡ lot-in held
+lent-places held numbers size e few =
+    λ i. record { n = length-take-le (held .count) numbers (omega arith) i; upper = held .upper; lower = held .lower; readings = take (held .count) (e i) }

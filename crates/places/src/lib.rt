@@ -26,10 +26,10 @@ pub fn thousandths(numbers: [i32; MOST]) -> [Thousandths; MOST]
     ensures { λ r. ⌜ r ≡ map thousandths numbers ⌝ }
 {
     let mut readings = [Thousandths(0); MOST];
-    let mut i = 0;
-    while i < MOST {
-        readings[i] = Thousandths(numbers[i]);
-        i += 1;
+    let mut place = 0;
+    while place < MOST {
+        readings[place] = Thousandths(numbers[place]);
+        place += 1;
     }
     readings
 }

@@ -1,4 +1,4 @@
--- The loop has filled the first i places.
+-- The loop has filled the first places.
 use mathlib.Core.Path.{_≡_, refl, sym, _∙_}
 use mathlib.Core.List.{List, map}
 use Prim.Native.Nat.{ℕ, _-_, _≤_}
@@ -18,10 +18,10 @@ use Rattle.places.proofs.thousandths.Statement.{statement}
 use Rattle.places.proofs.thousandths.Tie as tie
 
 abbrev Inv-loop : tie.InvT-loop
-Inv-loop numbers readings₀ i₀ readings i = (i ≤ most) × (length readings ≡ most) × (take i readings ≡ take i (map thousandths numbers))
+Inv-loop numbers readings₀ place₀ readings place = (place ≤ most) × (length readings ≡ most) × (take place readings ≡ take place (map thousandths numbers))
 
 abbrev μ-loop : tie.MeasureT-loop
-μ-loop numbers readings₀ i₀ readings i = most - i
+μ-loop numbers readings₀ place₀ readings place = most - place
 
 loop-holds : tie.Need-loop-holds Inv-loop μ-loop
 loop-holds c = (omega arith, refl, refl)
@@ -38,8 +38,8 @@ mul-readings c = omega arith
 array-set-from-readings : tie.Need-array-set-from-readings Inv-loop μ-loop
 array-set-from-readings c = omega arith
 
-add-i : tie.Need-add-i Inv-loop μ-loop
-add-i c = omega arith
+add-place : tie.Need-add-place Inv-loop μ-loop
+add-place c = omega arith
 
 loop-less : tie.Need-loop-less Inv-loop μ-loop
 loop-less c = omega arith
@@ -48,7 +48,7 @@ loop-again : tie.Need-loop-again Inv-loop μ-loop
 loop-again c =
     let xs : List ℤ = c .before .before .before .args .t1 in
     let ys : List Thousandths = c .before .before .loop .readings in
-    let i : ℕ = c .before .before .loop .i in
+    let i : ℕ = c .before .before .loop .place in
     let inv = c .before .before .loop .inv in
     let size : length xs ≡ most = c .before .before .before .good .0 .1 .0 .1 in
     let f : SFits w32 (getD xs i (pos 0)) = record { sfits = c .t10 .given } in
@@ -58,7 +58,7 @@ returns : tie.Need-returns Inv-loop μ-loop
 returns c =
     let xs : List ℤ = c .before .before .args .t1 in
     let ys : List Thousandths = c .before .loop .readings in
-    let i : ℕ = c .before .loop .i in
+    let i : ℕ = c .before .loop .place in
     let inv = c .before .loop .inv in
     let all : length (map thousandths xs) ≡ most = length-map xs thousandths ∙ c .before .before .good .0 .1 .0 .1 in
     sym (take-all i ys (omega arith)) ∙ inv .2 ∙ take-all i (map thousandths xs) (omega arith)
@@ -74,7 +74,7 @@ thousandths-spec =
     array-copy-out-t10
     mul-readings
     array-set-from-readings
-    add-i
+    add-place
     loop-less
     loop-again
     returns)

@@ -6,7 +6,7 @@ use native.Mathlib.Numerals.{add-one}
 use native.Mathlib.Omega.{arith}
 use borrow.Author.Needs.{needs}
 use lib.IntN.{ℤ, pos}
-use lib.ListN.{length, length-append, length-replicate, replicate, set}
+use lib.ListN.{length, replicate, set}
 use lib.Seq.{set-at, append-snoc}
 use mir.Syntax.{w32}
 use mir.Val.{SFits, toZ}

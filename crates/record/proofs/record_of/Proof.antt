@@ -1,4 +1,4 @@
-use mathlib.Core.Path.{_≡_, refl, sym, ap, ap₂, _∙_}
+use mathlib.Core.Path.{_≡_, sym, ap, ap₂, _∙_}
 use mathlib.Core.List.{List, [], _∷_, _++_, append-nil, append-assoc}
 use Prim.Native.Nat.{ℕ, _+_, _*_, _-_, _≤_, _<_}
 use native.Mathlib.Numerals.{add-one}
@@ -138,8 +138,7 @@ loop-again c =
     let room : head-size + 4 * loop .i + 4 ≤ length (loop .whole) = omega (arith, loop .inv .1) in
     let places : length rs ≡ most = places start in
     let f : SFits w32 (getD rs (loop .i) (thousandths (pos 0)) .0) = record { sfits = c .before .before .struct-told .given .0 .1 } in
-    let four : c .spell .result ≡ in-four (getD rs (loop .i) (thousandths (pos 0)) .0) = c .spell .ensures ∙ ap (spell 4) (simp toZ-ofZ at (c .before .unsigned .ensures)) in
-    (
+    let four : c .spell .result ≡ in-four (getD rs (loop .i) (thousandths (pos 0)) .0) = c .spell .ensures ∙ ap (spell 4) (simp toZ-ofZ at (c .before .unsigned .ensures)) in (
       omega arith,
       simp length-set (loop .inv .1),
       rw (stored-four (loop .whole) (c .spell .result) (head-size + 4 * loop .i) room (c .spell .ok .1 .0 .1)) (next rs (take head-size (c .before .before .before .before .before .before .before .copy .last .1 .0)) (loop .whole) (c .spell .result) (loop .i) (omega arith) room (c .spell .ok .1 .0 .1) four (loop .inv .2)),

@@ -82,10 +82,11 @@ returns c =
 returns-2 : tie.Need-returns-2
 unfolding write-says write-meets
 returns-2 c =
-    let start = c .before .before .before .before .before .before in
-    let some : length (start .args .out .now) < length (record-of (lot-in (start .args .lot))) = omega (arith, size start (accepted (c .before .before) .few)) in
-    refused-write (lot-in (start .args .lot)) (start .args .out .now)
-    (ruled-later _ _ _ (unrefused (c .before .before)) ∙ ruled-met _ _ _ (lt-ltb _ _ some))
+    let short : tie.Then1 = c in
+    let told = short .before .before in
+    let start = told .before .before .before .before in
+    let some : length (start .args .out .now) < length (record-of (lot-in (start .args .lot))) = omega (arith, size start (accepted told .few)) in
+    refused-write (lot-in (start .args .lot)) (start .args .out .now) (ruled-later _ _ _ (unrefused told) ∙ ruled-met _ _ _ (lt-ltb _ _ some))
 
 same-length : tie.Need-same-length
 same-length c = search needs
@@ -93,18 +94,19 @@ same-length c = search needs
 returns-3 : tie.Need-returns-3
 unfolding write-says write-meets written
 returns-3 c =
-    let start = c .before .before .before .before .before .before .before .before .before .before .before .before in
-    let told = c .before .before .before .before .before .before .before .before in
+    let end : tie.After-slice-known2 = c in
+    let copy = end .before .before .copy in
+    let made = end .before .before .before .before .before .record-of in
+    let told = end .before .before .before .before .before .before .before .before in
+    let start = told .before .before .before .before in
     let lot : Lot = lot-in (start .args .lot) in
     let out : List ℕ = start .args .out .now in
     let long = size start (accepted told .few) in
-    let whole : take (head-size + 4 * start .args .lot .count) (c .before .before .before .before .before .record-of .result) ≡ record-of lot = c .before .before .before .before .before .record-of .ensures in
     let room : length (record-of lot) ≤ length out = omega arith in
-    let said : write-says lot out ≡ answers (length (record-of lot)) = ruled-later _ _ _ (unrefused told) ∙ ruled-passed _ _ _ (le-ltb _ _ room) ∙ ruled-none _ in
-    (
-      ap (λ (k : ℕ). answers k) (c .before .before .copy .ensures .0 ∙ ap length whole) ∙ sym said,
-      c .before .before .copy .ensures .1
-          ∙ ap (λ (bs : List ℕ). take (length bs) bs ++ drop (length bs) out) whole
+    let said : write-says lot out ≡ answers (length (record-of lot)) = ruled-later _ _ _ (unrefused told) ∙ ruled-passed _ _ _ (le-ltb _ _ room) ∙ ruled-none _ in (
+      ap (λ (k : ℕ). answers k) (copy .ensures .0 ∙ ap length (made .ensures)) ∙ sym said,
+      copy .ensures .1
+          ∙ ap (λ (bs : List ℕ). take (length bs) bs ++ drop (length bs) out) (made .ensures)
           ∙ ap (λ (bs : List ℕ). bs ++ drop (length (record-of lot)) out) (take-length (record-of lot))
           ∙ sym (ap (written (record-of lot) out) said),
     )

@@ -1,30 +1,24 @@
 -- A count above what a lot can hold is refusal 4; else the places up to it are the lot's readings.
 use mathlib.Core.Path.{_≡_, sym, ap, _∙_}
 use mathlib.Core.Bool.{Bool, true, not, and-false, _&&_}
-use Prim.Native.Nat.{ℕ, _<_}
+use Prim.Native.Nat.{ℕ, _≤_, _<_}
 use native.Mathlib.Omega.{arith}
 use borrow.Author.Needs.{needs}
 use borrow.Author.Tests.{lt-leb}
 use lib.Dec.{leb}
-use lib.ListN.{length, take}
+use lib.ListN.{length}
 use lib.Seq.{length-take-le}
-use Rattle.rules.specs.declared.HeldLot.{HeldLot}
 use Rattle.rules.specs.Said.{checked}
-use Rattle.rules.specs.Lot.{Lot, most, lot-of, lot-in, places}
+use Rattle.rules.specs.Lot.{Lot, most}
 use Rattle.rules.specs.Refusals.{allowed}
 use Rattle.rules.specs.Meets.{evaluation-meets}
 use Rattle.laws.proofs.Ruled.{ruled-met}
+use Rattle.laws.proofs.Lots.{lent-places}
 use Rattle.refusals.proofs.held.Statement.{statement}
 use Rattle.refusals.proofs.held.Tie as tie
 
 too-many : (n : ℕ) → most < n → not (allowed n) ≡ true
 too-many n h = ap not (ap (λ (b : Bool). leb 2 n && b) (lt-leb n most h) ∙ and-false (leb 2 n))
-
--- the first places, as they were copied
-copied : (c : tie.After-numbers) → length (take (c .before .before .before .before .args .lot .count) (c .numbers .result)) ≡ c .before .before .before .before .args .lot .count
-copied c =
-    let size : length (c .numbers .result) ≡ most = c .numbers .ok .1 .0 .1 in
-    length-take-le (c .before .before .before .before .args .lot .count) (c .numbers .result) (omega arith)
 
 cast-count : tie.Need-cast-count
 cast-count c = search needs
@@ -36,7 +30,9 @@ array-share-prefix-numbers : tie.Need-array-share-prefix-numbers
 array-share-prefix-numbers c = search needs
 
 slice-aggregate-evaluation : tie.Need-slice-aggregate-evaluation
-slice-aggregate-evaluation c = sym (copied (c .before))
+slice-aggregate-evaluation c =
+    let size : length (c .before .numbers .result) ≡ most = c .before .numbers .ok .1 .0 .1 in
+    sym (length-take-le _ (c .before .numbers .result) (omega arith))
 
 evaluation-requires : tie.Need-evaluation-requires
 evaluation-requires c κs = search needs
@@ -47,11 +43,10 @@ returns c = sym (ruled-met _ _ _ (too-many (c .before .before .args .lot .count)
 
 returns-2 : tie.Need-returns-2
 returns-2 c =
-    let lot : HeldLot = c .before .before .before .before .before .before .args .lot in
-    let n : length (take (lot .count) (c .before .before .numbers .result)) ≡ lot .count = copied (c .before .before) in
-    let xs : take (lot .count) (c .before .before .numbers .result) ≡ take (lot .count) (places lot) = ap (take (lot .count)) (c .before .before .numbers .ensures) in
-    let same : lot-of (lot .upper) (lot .lower) (take (lot .count) (c .before .before .numbers .result)) ≡ lot-in lot = λ i. record { n = n i; upper = lot .upper; lower = lot .lower; readings = xs i } in
-    c .evaluation .ensures ∙ ap (λ (l : Lot). checked (evaluation-meets l)) same
+    let numbers = c .before .before .numbers in
+    let few : c .before .before .before .before .before .before .args .lot .count ≤ most = omega arith in
+    c .evaluation .ensures
+    ∙ ap (λ (lot : Lot). checked (evaluation-meets lot)) (lent-places (c .before .before .before .before .before .before .args .lot) (numbers .result) (numbers .ok .1 .0 .1) (numbers .ensures) few)
 
 pub held-spec : {M : Type 1} → statement M
 held-spec =

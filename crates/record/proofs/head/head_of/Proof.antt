@@ -1,4 +1,4 @@
-use mathlib.Core.Path.{_≡_, refl, sym, ap₂, _∙_}
+use mathlib.Core.Path.{_≡_, sym, ap₂, _∙_}
 use mathlib.Core.List.{List, [], _∷_, _++_}
 use Prim.Native.Nat.{ℕ, _+_, _*_, _≤_}
 use native.Mathlib.Omega.{arith}
@@ -14,6 +14,11 @@ use Rattle.record.proofs.head.head_of.Tie as tie
 one-bit : (limit : Limit) → bit limit ≤ 1
 one-bit Absent = omega arith
 one-bit (At z) = omega arith
+
+bits : (c : tie.After-bit2) → c .before .bit .result + 2 * c .bit2 .result ≤ 3
+bits c =
+    let args = c .before .before .before .before .before .args in
+    omega (arith, c .before .bit .ensures, c .bit2 .ensures, one-bit (args .upper), one-bit (args .lower))
 
 -- Eight bytes one by one are two lists of four.
 laid : (first second third fourth n : ℕ) (us ls : List ℕ) → length us ≡ 4 → length ls ≡ 4 →
@@ -49,10 +54,10 @@ bit-requires-2 : tie.Need-bit-requires-2
 bit-requires-2 c κs = search needs
 
 mul-t18 : tie.Need-mul-t18
-mul-t18 c = omega (arith, c .bit2 .ensures, one-bit (c .before .before .before .before .before .args .lower))
+mul-t18 c = omega (arith, bits c)
 
 add-t19 : tie.Need-add-t19
-add-t19 c = omega (arith, c .bit2 .ensures, c .before .bit .ensures, one-bit (c .before .before .before .before .before .args .upper), one-bit (c .before .before .before .before .before .args .lower))
+add-t19 c = omega (arith, bits c)
 
 array-read-t22 : tie.Need-array-read-t22
 array-read-t22 c = search needs

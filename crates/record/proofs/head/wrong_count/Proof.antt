@@ -1,7 +1,4 @@
 -- n is a byte, so 11 + 4n is far from the end of its width.
-use mathlib.Core.Path.{ap₂}
-use mathlib.Core.Bool.{Bool, not, _||_}
-use Prim.Native.Nat.{ℕ}
 use native.Mathlib.Omega.{arith}
 use borrow.Author.Needs.{needs}
 use Rattle.record.proofs.head.wrong_count.Statement.{statement}

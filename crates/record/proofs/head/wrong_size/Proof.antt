@@ -1,10 +1,5 @@
 -- Below 13 bytes nothing is read; else the length is compared.
-use mathlib.Core.Path.{ap, sym, _∙_}
-use mathlib.Core.Bool.{not}
-use Prim.Native.Nat.{ℕ, _-_}
 use borrow.Author.Tests.{lt-ltb, le-ltb}
-use lib.Dec.{eqb}
-use lib.ListN.{length as size}
 use borrow.Author.Needs.{needs}
 use Rattle.record.proofs.head.wrong_size.Statement.{statement}
 use Rattle.record.proofs.head.wrong_size.Tie as tie

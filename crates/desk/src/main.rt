@@ -2,6 +2,7 @@
 mod lots;
 mod mixtures;
 mod payments;
+mod records;
 mod show;
 
 fn main() {
@@ -19,4 +20,8 @@ fn main() {
     mixtures::mixtures();
     mixtures::offsets();
     mixtures::refusals();
+    records::both_ways();
+    records::refused_reads();
+    records::refused_writes();
+    records::many();
 }

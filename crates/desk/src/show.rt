@@ -8,12 +8,16 @@ pub(crate) fn words(text: &[u8]) {
     io::write_all(STDOUT_FILENO, text);
 }
 
+pub(crate) fn count(n: u64) {
+    print_decimal(STDOUT_FILENO, n);
+}
+
 pub(crate) fn number(name: &[u8], z: i64) {
     words(name);
     if z < 0 {
         words(b"-");
     }
-    print_decimal(STDOUT_FILENO, magnitude(z));
+    count(magnitude(z));
 }
 
 pub(crate) fn thousandths(name: &[u8], z: i32) {

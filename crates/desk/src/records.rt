@@ -168,6 +168,30 @@ fn each_byte(name: &[u8], place: usize) {
     words(b"\n");
 }
 
+// A record of n readings of 0 below an upper limit of 0, whatever n is.
+fn counted(n: u8) {
+    let mut bytes = [0; 1033];
+    let length = 11 + 4 * n as usize;
+    bytes[0] = (length / 256) as u8;
+    bytes[1] = (length % 256) as u8;
+    bytes[2] = 1;
+    bytes[3] = 1;
+    bytes[12] = n;
+    show_refusal(&bytes[..2 + length]);
+}
+
+// n from 0 to 255, with the length and the size that fit it.
+fn each_count(name: &[u8]) {
+    words(name);
+    words(b": ");
+    let mut n: u32 = 0;
+    while n < 256 {
+        counted(n as u8);
+        n += 1;
+    }
+    words(b"\n");
+}
+
 // The first bytes, from none of them to all.
 fn each_size(name: &[u8], bytes: [u8; ROOM]) {
     words(name);
@@ -260,9 +284,8 @@ pub(crate) fn both_ways() {
     both(b"longest", alike(10, 500000, at(500000), at(-500000)), 53);
 }
 
-// Each refusal of reading, and each two neighbours that both apply. (6 and 7 never do: an absent limit is not crossed.)
-pub(crate) fn refused_reads() {
-    words(b"\nRecords that are refused\n");
+// Refusals 1 to 3, of a record's own bytes.
+fn refused_heads() {
     read_sized(b"1: no byte", 0);
     read_sized(b"1: 12 bytes", 12);
     read_sized(b"1: a byte short", 28);
@@ -274,6 +297,10 @@ pub(crate) fn refused_reads() {
     read_shown(b"3: bit 7", with(D5, 3, 0x81));
     read_shown(b"3: a number for an absent upper limit", with(D5, 3, 0x02));
     read_shown(b"3: a number for an absent lower limit", with(D5, 8, 0x01));
+}
+
+// Refusals 4 to 7, of its lot.
+fn refused_lots() {
     read_shown(b"4: n 1", with(D5, 12, 0x01));
     read_shown(b"4: n 11", with(D5, 12, 0x0B));
     read_shown(b"4: n 5, in a record of 4", with(D5, 12, 0x05));
@@ -285,6 +312,10 @@ pub(crate) fn refused_reads() {
     read_shown(b"5: first reading -2,147,483,648", with(D5, 13, 0x80));
     read_shown(b"6: no limit", with(with(D5, 3, 0x00), 7, 0x00));
     read_shown(b"7: lower limit 22", with(with(D5, 3, 0x03), 11, 0x16));
+}
+
+// Each two neighbours that both apply. (6 and 7 never do: an absent limit is not crossed.)
+fn refused_pairs() {
     read_shown(b"1 and 2", with(with(D5, 1, 0x1A), 2, 0x00));
     read_shown(b"2 and 3", with(with(D5, 2, 0x00), 3, 0x05));
     read_shown(b"3 and 4", with(with(D5, 3, 0x05), 12, 0x05));
@@ -293,9 +324,15 @@ pub(crate) fn refused_reads() {
     read_shown(b"5 and 7", with(with(D5, 3, 0x03), 8, 0x7F));
 }
 
-// Each refusal of writing, and each two neighbours that both apply; the lent bytes stay as they are.
-pub(crate) fn refused_writes() {
-    words(b"\nLots that are not written\n");
+// Each refusal of reading.
+pub(crate) fn refused_reads() {
+    words(b"\nRecords that are refused\n");
+    refused_heads();
+    refused_lots();
+    refused_pairs();
+}
+
+fn unwritten_lots() {
     written(b"4: no reading", fours(0, at(21), Limit::Absent), 3);
     written(b"4: 1 reading", fours(1, at(21), Limit::Absent), 3);
     written(b"4: 11 readings", fours(11, at(21), Limit::Absent), 3);
@@ -318,6 +355,9 @@ pub(crate) fn refused_writes() {
     written(b"7: lower limit 22", fours(4, at(21), at(22)), 29);
     written(b"8: no room", fours(4, at(21), Limit::Absent), 0);
     written(b"8: a byte short", fours(4, at(21), Limit::Absent), 28);
+}
+
+fn unwritten_pairs() {
     written(b"4 and 5", fours(11, at(500001), Limit::Absent), 3);
     written(
         b"5 and 6",
@@ -327,6 +367,13 @@ pub(crate) fn refused_writes() {
     written(b"5 and 7", fours(4, at(21), at(500001)), 3);
     written(b"6 and 8", fours(4, Limit::Absent, Limit::Absent), 28);
     written(b"7 and 8", fours(4, at(21), at(22)), 28);
+}
+
+// Each refusal of writing, and each two neighbours that both apply; the lent bytes stay as they are.
+pub(crate) fn refused_writes() {
+    words(b"\nLots that are not written\n");
+    unwritten_lots();
+    unwritten_pairs();
 }
 
 // Of each record that is tried, the number of its refusal, or 0: in the order of what differs.
@@ -344,4 +391,5 @@ pub(crate) fn many() {
     each_byte(b"Byte 2 from 00 to FF", 2);
     each_byte(b"Byte 3 from 00 to FF", 3);
     each_byte(b"Byte 12 from 00 to FF", 12);
+    each_count(b"0 to 255 readings");
 }

@@ -1,14 +1,11 @@
 // The lot record, read and written.
-mod head;
-mod number;
-
-use head::HEAD;
-use head::head;
-use head::head_of;
-use number::signed;
-use number::spell;
-use number::unsigned;
-use number::word;
+use fields::head::HEAD;
+use fields::head::head;
+use fields::head::head_of;
+use fields::number::signed;
+use fields::number::spell;
+use fields::number::unsigned;
+use fields::number::word;
 use places::thousandths;
 use rules::HeldLot;
 use rules::Limit;

@@ -12,7 +12,7 @@ ghost use lib.ListN.{length};
 ghost use Rattle.rules.specs.Said.{checked};
 ghost use Rattle.rules.specs.Lot.{most};
 ghost use Rattle.rules.specs.Record.{head-size, length-field, bit, limit-bytes, head-of};
-ghost use Rattle.rules.specs.Refusals.{size-case, flags-case, record-count-case};
+ghost use Rattle.rules.specs.Refusals.{size-case, version-case, flags-case, record-count-case};
 ghost use Rattle.rules.specs.Meets.{head-meets};
 ghost use Rattle.rules.specs.Answers.{outcome-said};
 
@@ -34,6 +34,14 @@ fn wrong_size(bytes: &[u8]) -> bool
     } else {
         !(length(bytes) as usize == bytes.len() - 2)
     }
+}
+
+// 2: version isn't 1.
+fn wrong_version(bytes: &[u8]) -> bool
+    requires { ⌜ head-size ≤ length (now bytes) ⌝ }
+    ensures { λ r. ⌜ r ≡ version-case (now (bytes .entry)) .applies ⌝ }
+{
+    !(bytes[2] == 1)
 }
 
 // 3: bits 2 to 7 of byte 3 not all 0, or an absent limit's bytes not zero.
@@ -62,7 +70,7 @@ pub fn head(bytes: &[u8]) -> Outcome
 {
     if wrong_size(bytes) {
         Outcome::Refused(Refusal::Size)
-    } else if !(bytes[2] == 1) {
+    } else if wrong_version(bytes) {
         Outcome::Refused(Refusal::Version)
     } else if wrong_flags(bytes) {
         Outcome::Refused(Refusal::Flags)

@@ -1,15 +1,17 @@
--- Document 01, "Desk examples": the record of D5, byte for byte as it is printed, both ways. 00 1B 01 01 00 00 00 15 and so on, in hex.
+-- Records by computation: that of D5 as document 01 prints it, one with negative numbers, and an example of each refusal by its number.
 use mathlib.Core.Path.{_≡_, refl}
 use mathlib.Core.List.{List, [], _∷_}
 use Prim.Native.Nat.{ℕ}
-use lib.IntN.{pos}
-use Rattle.rules.specs.declared.Limit.the-variants.{Absent}
-use Rattle.rules.specs.Said.{answers, ruled}
+use lib.IntN.{pos, negℤ}
+use lib.ListN.{take, set, replicate}
+use Rattle.rules.specs.declared.Limit.the-variants.{Absent, At}
+use Rattle.rules.specs.Units.{thousandths}
+use Rattle.rules.specs.Said.{refused, answers, ruled}
 use Rattle.rules.specs.Lot.{Lot, lot-of}
 use Rattle.rules.specs.Record.{spelled, spell, fours, in-fours, lot-of-record, head-of, record-of}
 use Rattle.rules.specs.Refusals.{any-out}
-use Rattle.rules.specs.Meets.{read-meets}
-use Rattle.rules.specs.Entries.{read-says}
+use Rattle.rules.specs.Meets.{evaluation-meets, read-meets, write-meets}
+use Rattle.rules.specs.Entries.{read-says, write-says}
 use Rattle.laws.specs.Desk.{at}
 
 abbrev d5 : Lot
@@ -27,6 +29,7 @@ printed =
     0 ∷ 0 ∷ 0 ∷ 80 ∷
     []
 
+-- Document 01, "Desk examples": byte for byte, both ways. In hex 00 1B 01 01 00 00 00 15 and so on.
 pub d5-is-written : record-of d5 ≡ printed
 unfolding record-of head-of spell in-fours
 d5-is-written = refl
@@ -34,3 +37,26 @@ d5-is-written = refl
 pub d5-is-read : read-says printed ≡ answers d5
 unfolding read-says read-meets ruled lot-of-record spelled fours any-out
 d5-is-read = refl
+
+-- Two's complement: −1 is FF FF FF FF, and −500,000 is FF F8 5E E0.
+abbrev negative : Lot
+negative = lot-of Absent (At (thousandths (negℤ (pos 500000)))) (negℤ (pos 1) ∷ pos 1 ∷ [])
+
+pub negative-is-written :
+    record-of negative ≡ 0 ∷ 19 ∷ 1 ∷ 2 ∷ 0 ∷ 0 ∷ 0 ∷ 0 ∷ 255 ∷ 248 ∷ 94 ∷ 224 ∷ 2 ∷ 255 ∷ 255 ∷ 255 ∷ 255 ∷ 0 ∷ 0 ∷ 0 ∷ 1 ∷ []
+unfolding record-of head-of spell in-fours
+negative-is-written = refl
+
+-- "Numbers of refusal": D5's record with the bytes that are named changed, and D5 with too little room or too few readings.
+pub each-refusal :
+    (read-says (take 12 printed) ≡ refused 1) ×
+    (read-says (set printed 2 0) ≡ refused 2) ×
+    (read-says (set printed 3 5) ≡ refused 3) ×
+    (read-says (set printed 12 5) ≡ refused 4) ×
+    (read-says (set printed 25 127) ≡ refused 5) ×
+    (read-says (set (set printed 3 0) 7 0) ≡ refused 6) ×
+    (read-says (set (set printed 3 3) 11 22) ≡ refused 7) ×
+    (write-says d5 (replicate 28 0) ≡ refused 8) ×
+    (write-says (lot-of (at 21) Absent (pos 0 ∷ [])) (replicate 28 0) ≡ refused 4)
+unfolding read-says read-meets write-says write-meets evaluation-meets ruled lot-of-record record-of head-of spelled spell fours in-fours any-out
+each-refusal = (refl, refl, refl, refl, refl, refl, refl, refl, refl)

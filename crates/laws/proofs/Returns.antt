@@ -2,23 +2,24 @@
 -- bytes. So no lot has two records.
 use mathlib.Core.Path.{_≡_, refl, sym, ap, _∙_}
 use mathlib.Core.List.{List, [], _∷_, _++_, map}
-use Prim.Native.Nat.{ℕ, _≤_}
-use borrow.Author.Tests.{le-ltb, le-leb}
-use lib.IntN.{ℤ}
-use lib.ListN.{length, take, drop}
+use Prim.Native.Nat.{ℕ, _-_, _≤_, _<_}
+use native.Mathlib.Omega.{arith}
+use borrow.Author.Tests.{lt-ltb, le-ltb, le-leb}
+use lib.IntN.{ℤ, pos}
+use lib.ListN.{length, length-append, length-map, length-replicate, take, drop, replicate}
 use lib.Seq.{take-at}
 use Rattle.rules.specs.declared.Thousandths.{Thousandths}
 use Rattle.rules.specs.Units.{thousandths}
-use Rattle.rules.specs.Said.{Said, answers, ruled, checked}
+use Rattle.rules.specs.Said.{Said, refused, answers, ruled, checked}
 use Rattle.rules.specs.Lot.{Lot, most, plain, lot-in}
 use Rattle.rules.specs.Record.{n-field, head-size, lot-of-record, record-of}
 use Rattle.rules.specs.Refusals.{count-case, room-case}
 use Rattle.rules.specs.Meets.{head-meets, lot-meets, evaluation-meets, read-meets, write-meets}
-use Rattle.rules.specs.Entries.{read-says, held, write-says, written, after-write}
+use Rattle.rules.specs.Entries.{evaluated, evaluation-says, read-says, held, write-says, written, after-write}
 use Rattle.laws.specs.Moved.{Counted}
 use Rattle.laws.specs.Bytes.{Bytes}
 use Rattle.laws.specs.Head.{HeadAccepted}
-use Rattle.laws.proofs.Ruled.{ruled-none, ruled-passed, given, ruled-given, ruled-answers, none-met, ruled-later, none-of-either}
+use Rattle.laws.proofs.Ruled.{ruled-none, ruled-met, ruled-passed, given, ruled-given, ruled-answers, none-met, ruled-later, none-of-either}
 use Rattle.laws.proofs.Accepted.{lot-accepted}
 use Rattle.laws.proofs.Spelled.{length-fours}
 use Rattle.laws.proofs.HeadAccepted.{head-accepted}
@@ -102,3 +103,38 @@ read-writes-back bs out lot h room e = (said, ap (written (record-of lot) out) s
         ∙ ruled-passed (room-case (length out) (length (record-of lot))) _ _ (le-ltb (length out) (length (record-of lot)) (rw own room))
         ∙ ruled-none _
         ∙ ap (λ (cs : List ℕ). answers (length cs)) own
+
+-- A refused write leaves every lent byte as it was,
+pub refused-write-keeps : (lot : Lot) (out : List ℕ) (k : ℕ) → write-says lot out ≡ refused k → after-write lot out ≡ out
+unfolding written
+refused-write-keeps lot out k e = ap (written (record-of lot) out) e
+
+-- and too little room is refused by 8, of a lot that is not refused itself.
+pub short-room-is-refused : (lot : Lot) (out : List ℕ) → checked (evaluation-meets lot) ≡ answers tt → length out < length (record-of lot) → write-says lot out ≡ refused 8
+unfolding write-says write-meets
+short-room-is-refused lot out e short = ruled-later (evaluation-meets lot) _ _ e ∙ ruled-met _ _ _ (lt-ltb (length out) (length (record-of lot)) short)
+
+-- ---- in memory
+
+-- What is read stands in as many places as memory has,
+pub read-has-all-places : (bs : List ℕ) → length (held (read-says bs) .readings) ≡ most
+unfolding held
+read-has-all-places bs = by (read-says bs) refl
+  where
+    by : (s : Said Lot) → read-says bs ≡ s → length (held s .readings) ≡ most
+    by (refused k) e = refl
+    by (answers lot) e =
+        let ok = read-is-accepted bs lot e in
+        omega (
+          arith,
+          lot-accepted lot (ok .0) .few,
+          ok .1,
+          length-map (lot .readings) thousandths,
+          length-replicate (most - lot .n) (thousandths (pos 0)),
+          length-append (map thousandths (lot .readings)) (replicate (most - lot .n) (thousandths (pos 0))),
+        )
+
+-- and what a refused read leaves there is no lot: its count is refused.
+pub blank-is-refused : (k : ℕ) → evaluation-says (lot-in (held (refused k))) ≡ refused 4
+unfolding held evaluation-says evaluated evaluation-meets
+blank-is-refused k = ruled-met _ _ _ refl

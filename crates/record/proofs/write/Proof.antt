@@ -4,7 +4,7 @@ use mathlib.Core.List.{List, _++_}
 use Prim.Native.Nat.{ℕ, _+_, _*_, _≤_, _<_}
 use native.Mathlib.Omega.{arith}
 use borrow.Author.Needs.{needs}
-use borrow.Author.Tests.{lt-ltb, le-ltb}
+use borrow.Author.Tests.{le-ltb}
 use lib.ListN.{length, length-map, take, drop}
 use lib.Seq.{length-take-le, take-length}
 use Rattle.rules.specs.declared.HeldLot.{HeldLot}
@@ -14,10 +14,11 @@ use Rattle.rules.specs.Record.{head-size, record-of}
 use Rattle.rules.specs.Meets.{evaluation-meets, write-meets}
 use Rattle.rules.specs.Answers.{outcome-said}
 use Rattle.rules.specs.Entries.{write-says, written, after-write}
-use Rattle.laws.proofs.Ruled.{ruled-none, ruled-met, ruled-passed, ruled-first, ruled-later, nothing-refused}
+use Rattle.laws.proofs.Ruled.{ruled-none, ruled-passed, ruled-first, ruled-later, nothing-refused}
 use Rattle.laws.proofs.Accepted.{LotAccepted, lot-accepted}
 use Rattle.laws.proofs.Lots.{lot-in-counted}
 use Rattle.laws.proofs.Records.{length-record}
+use Rattle.laws.proofs.Returns.{refused-write-keeps, short-room-is-refused}
 use Rattle.record.proofs.write.Statement.{statement}
 use Rattle.record.proofs.write.Tie as tie
 
@@ -36,8 +37,7 @@ accepted c = lot-accepted _ (unrefused c)
 
 -- A refused write, of any number.
 refused-write : (lot : Lot) (out : List ℕ) {k : ℕ} → write-says lot out ≡ refused k → (refused k ≡ write-says lot out) × (out ≡ after-write lot out)
-unfolding written
-refused-write lot out e = (sym e, sym (ap (written (record-of lot) out) e))
+refused-write lot out {k} e = (sym e, sym (refused-write-keeps lot out k e))
 
 held-requires : tie.Need-held-requires
 held-requires c κs = search needs
@@ -80,13 +80,12 @@ returns c =
     (ruled-first _ _ _ (sym (c .before .before .before .held .ensures) ∙ ap outcome-said (c .before .refusal .given .1)))
 
 returns-2 : tie.Need-returns-2
-unfolding write-says write-meets
 returns-2 c =
     let short : tie.Then1 = c in
     let told = short .before .before in
     let start = told .before .before .before .before in
-    let some : length (start .args .out .now) < length (record-of (lot-in (start .args .lot))) = omega (arith, size start (accepted told .few)) in
-    refused-write (lot-in (start .args .lot)) (start .args .out .now) (ruled-later _ _ _ (unrefused told) ∙ ruled-met _ _ _ (lt-ltb _ _ some))
+    let less : length (start .args .out .now) < length (record-of (lot-in (start .args .lot))) = omega (arith, size start (accepted told .few)) in
+    refused-write (lot-in (start .args .lot)) (start .args .out .now) (short-room-is-refused _ _ (unrefused told) less)
 
 same-length : tie.Need-same-length
 same-length c = search needs

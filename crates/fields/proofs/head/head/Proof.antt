@@ -2,7 +2,6 @@
 use mathlib.Core.Path.{_≡_, sym, _∙_}
 use mathlib.Core.Bool.{false}
 use Prim.Native.Nat.{_≤_}
-use native.Mathlib.Omega.{arith}
 use borrow.Author.Needs.{needs}
 use lib.ListN.{length}
 use Rattle.rules.specs.Record.{head-size}
@@ -21,8 +20,8 @@ long c = long-enough (c .before .before .before .args .bytes .now) (right-size c
 wrong-size-requires : tie.Need-wrong-size-requires
 wrong-size-requires c κs = search needs
 
-shared-slice-read-if2 : tie.Need-shared-slice-read-if2
-shared-slice-read-if2 c = omega (arith, long (c .before))
+wrong-version-requires : tie.Need-wrong-version-requires
+wrong-version-requires c κs = long c
 
 wrong-flags-requires : tie.Need-wrong-flags-requires
 wrong-flags-requires c κs = long (c .before .before)
@@ -34,20 +33,20 @@ returns : tie.Need-returns
 returns c = sym (ruled-met _ _ _ (sym (c .before .wrong-size .ensures) ∙ c .if1 .taken))
 
 returns-2 : tie.Need-returns-2
-returns-2 c = sym (ruled-passed _ _ _ (right-size (c .before .before)) ∙ ruled-met _ _ _ (c .if2 .taken))
+returns-2 c = sym (ruled-passed _ _ _ (right-size (c .before .before)) ∙ ruled-met _ _ _ (sym (c .before .wrong-version .ensures) ∙ c .if2 .taken))
 
 returns-3 : tie.Need-returns-3
 returns-3 c =
     sym
     (ruled-passed _ _ _ (right-size (c .before .before .before .before))
-    ∙ ruled-passed _ _ _ (c .before .before .if2 .left)
+    ∙ ruled-passed _ _ _ (sym (c .before .before .before .wrong-version .ensures) ∙ c .before .before .if2 .left)
     ∙ ruled-met _ _ _ (sym (c .before .wrong-flags .ensures) ∙ c .if3 .taken))
 
 returns-4 : tie.Need-returns-4
 returns-4 c =
     sym
     (ruled-passed _ _ _ (right-size (c .before .before .before .before .before .before))
-    ∙ ruled-passed _ _ _ (c .before .before .before .before .if2 .left)
+    ∙ ruled-passed _ _ _ (sym (c .before .before .before .before .before .wrong-version .ensures) ∙ c .before .before .before .before .if2 .left)
     ∙ ruled-passed _ _ _ (sym (c .before .before .before .wrong-flags .ensures) ∙ c .before .before .if3 .left)
     ∙ ruled-met _ _ _ (sym (c .before .wrong-count .ensures) ∙ c .if4 .taken))
 
@@ -55,7 +54,7 @@ returns-5 : tie.Need-returns-5
 returns-5 c =
     sym
     (ruled-passed _ _ _ (right-size (c .before .before .before .before .before .before))
-    ∙ ruled-passed _ _ _ (c .before .before .before .before .if2 .left)
+    ∙ ruled-passed _ _ _ (sym (c .before .before .before .before .before .wrong-version .ensures) ∙ c .before .before .before .before .if2 .left)
     ∙ ruled-passed _ _ _ (sym (c .before .before .before .wrong-flags .ensures) ∙ c .before .before .if3 .left)
     ∙ ruled-passed _ _ _ (sym (c .before .wrong-count .ensures) ∙ c .if4 .left)
     ∙ ruled-none tt)
@@ -65,7 +64,7 @@ head-spec =
     tie.close
     (tie.spec
     wrong-size-requires
-    shared-slice-read-if2
+    wrong-version-requires
     wrong-flags-requires
     wrong-count-requires
     returns

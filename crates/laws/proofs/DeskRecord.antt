@@ -1,6 +1,6 @@
 -- Records by computation: that of D5 as document 01 prints it, one with negative numbers, and an example of each refusal by its number.
 use mathlib.Core.Path.{_≡_, refl}
-use mathlib.Core.List.{List, [], _∷_}
+use mathlib.Core.List.{List, [], _∷_, _++_}
 use Prim.Native.Nat.{ℕ}
 use lib.IntN.{pos, negℤ}
 use lib.ListN.{take, set, replicate}
@@ -47,11 +47,15 @@ pub negative-is-written :
 unfolding record-of head-of spell in-fours
 negative-is-written = refl
 
--- "Numbers of refusal": D5's record with the bytes that are named changed, and D5 with too little room or too few readings.
+-- "Numbers of refusal": D5's record cut, lengthened or with other bytes at the places that are named; and D5 with too little room or too few
+-- readings.
 pub each-refusal :
     (read-says (take 12 printed) ≡ refused 1) ×
+    (read-says (printed ++ (0 ∷ [])) ≡ refused 1) ×
     (read-says (set printed 2 0) ≡ refused 2) ×
     (read-says (set printed 3 5) ≡ refused 3) ×
+    (read-says (set printed 3 2) ≡ refused 3) ×
+    (read-says (set printed 8 1) ≡ refused 3) ×
     (read-says (set printed 12 5) ≡ refused 4) ×
     (read-says (set printed 25 127) ≡ refused 5) ×
     (read-says (set (set printed 3 0) 7 0) ≡ refused 6) ×
@@ -59,4 +63,4 @@ pub each-refusal :
     (write-says d5 (replicate 28 0) ≡ refused 8) ×
     (write-says (lot-of (at 21) Absent (pos 0 ∷ [])) (replicate 28 0) ≡ refused 4)
 unfolding read-says read-meets write-says write-meets evaluation-meets ruled lot-of-record record-of head-of spelled spell fours in-fours any-out
-each-refusal = (refl, refl, refl, refl, refl, refl, refl, refl, refl)
+each-refusal = (refl, refl, refl, refl, refl, refl, refl, refl, refl, refl, refl, refl)

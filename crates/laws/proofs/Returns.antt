@@ -135,6 +135,6 @@ read-has-all-places bs = by (read-says bs) refl
         )
 
 -- and what a refused read leaves there is no lot: its count is refused.
-pub blank-is-refused : (k : ℕ) → evaluation-says (lot-in (held (refused k))) ≡ refused 4
-unfolding held evaluation-says evaluated evaluation-meets
-blank-is-refused k = ruled-met _ _ _ refl
+pub blank-is-refused : (k : ℕ) (out : List ℕ) → (evaluation-says (lot-in (held (refused k))) ≡ refused 4) × (write-says (lot-in (held (refused k))) out ≡ refused 4)
+unfolding held evaluation-says evaluated evaluation-meets write-says write-meets
+blank-is-refused k out = (ruled-met _ _ _ refl, ruled-met _ _ _ refl)

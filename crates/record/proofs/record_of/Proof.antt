@@ -141,7 +141,8 @@ loop-again c =
     let four : c .spell .result ≡ in-four (getD rs (loop .i) (thousandths (pos 0)) .0) = c .spell .ensures ∙ ap (spell 4) (simp toZ-ofZ at (c .before .unsigned .ensures)) in (
       omega arith,
       simp length-set (loop .inv .1),
-      rw (stored-four (loop .whole) (c .spell .result) (head-size + 4 * loop .i) room (c .spell .ok .1 .0 .1)) (next rs (take head-size (c .before .before .before .before .before .before .before .copy .last .1 .0)) (loop .whole) (c .spell .result) (loop .i) (omega arith) room (c .spell .ok .1 .0 .1) four (loop .inv .2)),
+      ap (take (head-size + 4 * (loop .i + 1))) (stored-four (loop .whole) (c .spell .result) (head-size + 4 * loop .i) room (c .spell .ok .1 .0 .1))
+          ∙ next rs (take head-size (c .before .before .before .before .before .before .before .copy .last .1 .0)) (loop .whole) (c .spell .result) (loop .i) (omega arith) room (c .spell .ok .1 .0 .1) four (loop .inv .2),
     )
 
 returns : tie.Need-returns Inv-loop μ-loop

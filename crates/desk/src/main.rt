@@ -1,4 +1,5 @@
 // The examples of document 01, run, with the edges of every refusal.
+mod damaged;
 mod lots;
 mod mixtures;
 mod payments;
@@ -21,7 +22,7 @@ fn main() {
     mixtures::offsets();
     mixtures::refusals();
     records::both_ways();
-    records::refused_reads();
+    damaged::refused_reads();
     records::refused_writes();
-    records::many();
+    damaged::many();
 }

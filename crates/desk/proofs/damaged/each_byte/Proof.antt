@@ -2,8 +2,8 @@
 use native.Mathlib.Omega.{arith}
 use borrow.Author.Needs.{needs}
 use Prim.Native.Nat.{_-_}
-use Rattle.desk.proofs.records.each_byte.Statement.{statement}
-use Rattle.desk.proofs.records.each_byte.Tie as tie
+use Rattle.desk.proofs.damaged.each_byte.Statement.{statement}
+use Rattle.desk.proofs.damaged.each_byte.Tie as tie
 
 abbrev Inv-loop : tie.InvT-loop
 Inv-loop name place b₀ t6 b = Unit {0}

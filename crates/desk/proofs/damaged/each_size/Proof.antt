@@ -4,8 +4,8 @@ use native.Mathlib.Omega.{arith}
 use borrow.Author.Needs.{needs}
 use lib.Seq.{length-take-le}
 use Prim.Native.Nat.{_-_}
-use Rattle.desk.proofs.records.each_size.Statement.{statement}
-use Rattle.desk.proofs.records.each_size.Tie as tie
+use Rattle.desk.proofs.damaged.each_size.Statement.{statement}
+use Rattle.desk.proofs.damaged.each_size.Tie as tie
 
 abbrev Inv-loop : tie.InvT-loop
 Inv-loop name bytes size₀ t6 size = Unit {0}

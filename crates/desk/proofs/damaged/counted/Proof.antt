@@ -2,8 +2,8 @@
 use mathlib.Core.Path.{sym}
 use borrow.Author.Needs.{needs}
 use lib.Seq.{length-take-le}
-use Rattle.desk.proofs.records.counted.Statement.{statement}
-use Rattle.desk.proofs.records.counted.Tie as tie
+use Rattle.desk.proofs.damaged.counted.Statement.{statement}
+use Rattle.desk.proofs.damaged.counted.Tie as tie
 
 mul-length : tie.Need-mul-length
 mul-length c = search needs

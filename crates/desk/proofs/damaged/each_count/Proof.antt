@@ -2,8 +2,8 @@
 use native.Mathlib.Omega.{arith}
 use borrow.Author.Needs.{needs}
 use Prim.Native.Nat.{_-_}
-use Rattle.desk.proofs.records.each_count.Statement.{statement}
-use Rattle.desk.proofs.records.each_count.Tie as tie
+use Rattle.desk.proofs.damaged.each_count.Statement.{statement}
+use Rattle.desk.proofs.damaged.each_count.Tie as tie
 
 abbrev Inv-loop : tie.InvT-loop
 Inv-loop name n₀ t4 n = Unit {0}

@@ -99,6 +99,29 @@ fn each_size(name: &[u8], bytes: [u8; ROOM]) {
     words(b"\n");
 }
 
+// The length that fits so many bytes.
+fn fitted(mut bytes: [u8; ROOM], size: usize) -> [u8; ROOM] {
+    if 2 <= size {
+        if size <= ROOM {
+            bytes[1] = (size - 2) as u8;
+        }
+    }
+    bytes
+}
+
+// The same, with the length that fits them each time.
+fn each_fitted(name: &[u8], bytes: [u8; ROOM]) {
+    words(name);
+    words(b": ");
+    let mut size = 0;
+    while size <= ROOM {
+        let whole = fitted(bytes, size);
+        show_refusal(&whole[..size]);
+        size += 1;
+    }
+    words(b"\n");
+}
+
 pub(crate) fn printed() {
     read_shown(b"D5, as it is printed", D5);
 }
@@ -157,10 +180,9 @@ pub(crate) fn many() {
     each_size(b"0 to 60 zeros", [0x00; ROOM]);
     each_size(b"0 to 60 bytes of FF", [0xFF; ROOM]);
     each_size(b"0 to 60 bytes of D5", lengthened(D5));
-    each_size(
-        b"0 to 60 bytes of D5 with version 2",
-        lengthened(with(D5, 2, 0x02)),
-    );
+    each_fitted(b"0 to 60 bytes of D5, length fitted", lengthened(D5));
+    each_fitted(b"and with version 2", lengthened(with(D5, 2, 0x02)));
+    each_fitted(b"and with bit 2", lengthened(with(D5, 3, 0x05)));
     each_byte(b"Byte 0 from 00 to FF", 0);
     each_byte(b"Byte 1 from 00 to FF", 1);
     each_byte(b"Byte 2 from 00 to FF", 2);

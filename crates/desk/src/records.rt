@@ -111,8 +111,8 @@ fn at(z: i32) -> Limit {
     Limit::At(Thousandths(z))
 }
 
-// A lot of the first places of 0, 0, 0, 80 and six zeros.
-fn fours(count: u32, upper: Limit, lower: Limit) -> HeldLot {
+// A lot of the first places of D5's readings, 0, 0, 0 and 80, and six zeros.
+fn of_d5(count: u32, upper: Limit, lower: Limit) -> HeldLot {
     let none = Thousandths(0);
     let last = Thousandths(80);
     HeldLot {
@@ -153,8 +153,8 @@ fn both(name: &[u8], lot: HeldLot, room: usize) {
 // D5, the shortest record and the longest, both ways.
 pub(crate) fn both_ways() {
     words(b"\nRecords\n");
-    both(b"D5", fours(4, at(21), Limit::Absent), 29);
-    both(b"D5, with room left", fours(4, at(21), Limit::Absent), 32);
+    both(b"D5", of_d5(4, at(21), Limit::Absent), 29);
+    both(b"D5, with room left", of_d5(4, at(21), Limit::Absent), 32);
     damaged::printed();
     both(
         b"shortest",
@@ -165,40 +165,40 @@ pub(crate) fn both_ways() {
 }
 
 fn unwritten_lots() {
-    written(b"4: no reading", fours(0, at(21), Limit::Absent), 3);
-    written(b"4: 1 reading", fours(1, at(21), Limit::Absent), 3);
-    written(b"4: 11 readings", fours(11, at(21), Limit::Absent), 3);
+    written(b"4: no reading", of_d5(0, at(21), Limit::Absent), 13);
+    written(b"4: 1 reading", of_d5(1, at(21), Limit::Absent), 17);
+    written(b"4: 11 readings", of_d5(11, at(21), Limit::Absent), 57);
     written(
         b"4: 4294967295 readings",
-        fours(4294967295, at(21), Limit::Absent),
-        3,
+        of_d5(4294967295, at(21), Limit::Absent),
+        60,
     );
     written(
         b"5: upper limit 500,001",
-        fours(4, at(500001), Limit::Absent),
-        3,
+        of_d5(4, at(500001), Limit::Absent),
+        29,
     );
     written(
         b"5: a reading of -500,001",
         alike(2, -500001, at(21), Limit::Absent),
-        3,
+        21,
     );
-    written(b"6: no limit", fours(4, Limit::Absent, Limit::Absent), 29);
-    written(b"7: lower limit 22", fours(4, at(21), at(22)), 29);
-    written(b"8: no room", fours(4, at(21), Limit::Absent), 0);
-    written(b"8: a byte short", fours(4, at(21), Limit::Absent), 28);
+    written(b"6: no limit", of_d5(4, Limit::Absent, Limit::Absent), 29);
+    written(b"7: lower limit 22", of_d5(4, at(21), at(22)), 29);
+    written(b"8: no room", of_d5(4, at(21), Limit::Absent), 0);
+    written(b"8: a byte short", of_d5(4, at(21), Limit::Absent), 28);
 }
 
 fn unwritten_pairs() {
-    written(b"4 and 5", fours(11, at(500001), Limit::Absent), 3);
+    written(b"4 and 5", of_d5(11, at(500001), Limit::Absent), 57);
     written(
         b"5 and 6",
         alike(2, 500001, Limit::Absent, Limit::Absent),
-        3,
+        21,
     );
-    written(b"5 and 7", fours(4, at(21), at(500001)), 3);
-    written(b"6 and 8", fours(4, Limit::Absent, Limit::Absent), 28);
-    written(b"7 and 8", fours(4, at(21), at(22)), 28);
+    written(b"5 and 7", of_d5(4, at(21), at(500001)), 29);
+    written(b"6 and 8", of_d5(4, Limit::Absent, Limit::Absent), 28);
+    written(b"7 and 8", of_d5(4, at(21), at(22)), 28);
 }
 
 // Each refusal of writing, and each two neighbours that both apply; the lent bytes stay as they are.

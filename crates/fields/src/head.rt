@@ -1,4 +1,5 @@
 // The first 13 bytes of a record: length, version, flags, limits and n.
+use crate::number::signed;
 use crate::number::spell;
 use crate::number::spelled;
 use crate::number::unsigned;
@@ -6,12 +7,15 @@ use crate::number::word;
 use rules::Limit;
 use rules::Outcome;
 use rules::Refusal;
+use rules::Thousandths;
 ghost use mathlib.Core.Path.{_≡_};
 ghost use Prim.Native.Nat.{_≤_};
 ghost use lib.ListN.{length};
+ghost use mir.Syntax.{w32};
+ghost use mir.Val.{toZ};
 ghost use Rattle.rules.specs.Said.{checked};
 ghost use Rattle.rules.specs.Lot.{most};
-ghost use Rattle.rules.specs.Record.{head-size, length-field, bit, limit-bytes, head-of};
+ghost use Rattle.rules.specs.Record.{head-size, length-field, limit-of, lot-of-record, bit, limit-bytes, head-of};
 ghost use Rattle.rules.specs.Refusals.{size-case, version-case, flags-case, record-count-case};
 ghost use Rattle.rules.specs.Meets.{head-meets};
 ghost use Rattle.rules.specs.Answers.{outcome-said};
@@ -79,6 +83,32 @@ pub fn head(bytes: &[u8]) -> Outcome
     } else {
         Outcome::Answers
     }
+}
+
+fn limit(present: bool, x: u32) -> Limit
+    ensures { λ r. ⌜ r ≡ limit-of present (toZ w32 x) ⌝ }
+{
+    if present {
+        Limit::At(Thousandths(signed(x)))
+    } else {
+        Limit::Absent
+    }
+}
+
+// The upper limit that a record says it has. Inner: the reader passes a record whose first 13 bytes are not refused.
+pub fn upper(bytes: &[u8]) -> Limit
+    requires { ⌜ head-size ≤ length (now bytes) ⌝ }
+    ensures { λ r. ⌜ r ≡ lot-of-record (now (bytes .entry)) .upper ⌝ }
+{
+    limit(bytes[3] % 2 == 1, word(bytes, 4))
+}
+
+// And the lower. Inner, as the upper.
+pub fn lower(bytes: &[u8]) -> Limit
+    requires { ⌜ head-size ≤ length (now bytes) ⌝ }
+    ensures { λ r. ⌜ r ≡ lot-of-record (now (bytes .entry)) .lower ⌝ }
+{
+    limit(bytes[3] / 2 % 2 == 1, word(bytes, 8))
 }
 
 fn bit(limit: Limit) -> u8

@@ -1,4 +1,4 @@
-// Big-endian numbers: one reader and one writer, which every field goes through.
+// Big-endian numbers: one reader and one writer, which every number of more than one byte goes through.
 ghost use mathlib.Core.Path.{_≡_};
 ghost use mathlib.Core.List.{[], _∷_};
 ghost use Prim.Native.Nat.{_+_, _≤_};
@@ -26,7 +26,7 @@ pub fn spell(x: u32) -> [u8; 4]
     ]
 }
 
-// Two's complement, of four bytes.
+// The signed number of the same 32 bits: two's complement.
 pub fn signed(x: u32) -> i32
     ensures { λ r. ⌜ r ≡ toZ w32 x ⌝ }
 {
@@ -37,7 +37,7 @@ pub fn signed(x: u32) -> i32
     }
 }
 
-// And in four bytes.
+// And back.
 pub fn unsigned(z: i32) -> u32
     ensures { λ r. ⌜ r ≡ ofZ w32 z ⌝ }
 {

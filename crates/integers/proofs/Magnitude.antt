@@ -1,12 +1,13 @@
 -- Bounds of integers through their magnitudes, which are natural numbers.
-use mathlib.Core.Path.{_≡_, refl}
+use mathlib.Core.Path.{_≡_, refl, subst⁻¹}
 use mathlib.Core.Bool.{true}
 use Prim.Native.Nat.{ℕ, zero, suc, _+_, _*_, _^_, _≤_, _<_}
 use native.Mathlib.Nat.{le-of-lt}
 use native.Mathlib.Omega.{arith}
 use borrow.Author.Tests.{ltb-true}
+use lib.Dec.{T}
 use lib.IntN.{ℤ, pos, negsuc, negℤ, natAbs, _+ℤ_, _-ℤ_, _*ℤ_}
-use lib.Signed.{_≤ℤ_, ltZ, mag, yes-nonNeg, pos-natAbs}
+use lib.Signed.{_≤ℤ_, ltZ, mag, nonNeg, yes-nonNeg, pos-natAbs}
 use mir.Syntax.{Width}
 use mir.Val.{hbits, SFits}
 use Rattle.integers.proofs.Difference.{Diff, up, down, var, nat, diff-eq, eq-diff, diff-le, le-diff, arithℤ, ⊝_, _⊕_, _⊖_}
@@ -77,10 +78,13 @@ pub fits-of : (w : Width) {z : ℤ} → natAbs z < 2 ^ hbits w → SFits w z
 fits-of w {z = pos n} h = record { sfits = h }
 fits-of w {z = negsuc n} h = record { sfits = le-of-lt h }
 
--- −1 less a number that is not negative is below zero by one more, and −1 less a negative number is not negative.
+-- −1 less a number that is not negative is below zero by one more; −1 less a negative number is not negative, and fits where that does.
 pub minus-one-less : (n : ℕ) → negsuc 0 -ℤ pos n ≡ negsuc n
 minus-one-less n = diff-eq (var (negsuc 0) ⊖ nat n) (var (negsuc n)) (omega arith)
 
 pub minus-one-less-negative : (z : ℤ) → ltZ z (pos 0) ≡ true → negsuc 0 -ℤ z ≡ pos (mag z)
 minus-one-less-negative (pos n) e = absurd (omega (arith, ltb-true n 0 e))
 minus-one-less-negative (negsuc n) e = diff-eq (var (negsuc 0) ⊖ var (negsuc n)) (nat n) (omega arith)
+
+pub minus-one-less-fits : {w : Width} (z : ℤ) → SFits w z → ltZ z (pos 0) ≡ true → SFits w (negsuc 0 -ℤ z) × T (nonNeg (negsuc 0 -ℤ z))
+minus-one-less-fits {w} z f e = subst⁻¹ (λ (d : ℤ). SFits w d × T (nonNeg d)) (minus-one-less-negative z e) (record { sfits = f .sfits }, tt)

@@ -1,4 +1,4 @@
--- A number held for an absent limit is no part of the lot: the bytes in its place may be any.
+-- A number held for an absent limit is no part of the lot: whatever bytes stand in its place, the lot is the same. (The record is refused.)
 use mathlib.Core.Path.{_≡_, sym, ap₂, _∙_}
 use mathlib.Core.Bool.{false}
 use mathlib.Core.List.{List, [], _∷_, _++_}

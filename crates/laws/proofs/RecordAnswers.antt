@@ -17,7 +17,7 @@ use Rattle.laws.proofs.Lots.{lot-in-counted}
 use Rattle.laws.proofs.Returns.{read-is-held, no-two-records, write-reads-back, read-writes-back}
 
 -- A record that is answered was read as the lot that is left in memory.
-read-answered : (bs : List ℕ) (r : ReadAnswer) → r .said ≡ Outcome.Answers → read-said r ≡ read-leaves bs → read-says bs ≡ answers (lot-in (r .lot))
+pub read-answered : (bs : List ℕ) (r : ReadAnswer) → r .said ≡ Outcome.Answers → read-said r ≡ read-leaves bs → read-says bs ≡ answers (lot-in (r .lot))
 read-answered bs r ok e = by (read-says bs) refl
   where
     by : (s : Said Lot) → read-says bs ≡ s → read-says bs ≡ answers (lot-in (r .lot))

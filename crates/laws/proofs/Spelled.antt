@@ -21,11 +21,6 @@ use Rattle.laws.proofs.Bounds.{reading-bound, rest-in-range}
 
 -- ---- one number
 
-pub length-spell : (k x : ℕ) → length (spell k x) ≡ k
-unfolding spell
-length-spell zero x = refl
-length-spell (suc k) x = ap suc (length-spell k x)
-
 -- The bytes before the last k + 1 are those before the last k, less the last of them.
 div-pow-suc : (x k : ℕ) → x / 256 ^ suc k ≡ x / 256 ^ k / 256
 div-pow-suc x k = rw (pow-suc, div-div-eq-div-mul)

@@ -2,6 +2,8 @@
 use fields::head::HEAD;
 use fields::head::head;
 use fields::head::head_of;
+use fields::head::lower;
+use fields::head::upper;
 use fields::number::signed;
 use fields::number::spell;
 use fields::number::unsigned;
@@ -20,11 +22,9 @@ ghost use mathlib.Core.List.{_++_};
 ghost use Prim.Native.Nat.{_+_, _*_, _-_, _≤_};
 ghost use lib.IntN.{pos};
 ghost use lib.ListN.{length, take, replicate};
-ghost use mir.Syntax.{w32};
-ghost use mir.Val.{toZ};
 ghost use Rattle.rules.specs.Said.{ruled};
 ghost use Rattle.rules.specs.Lot.{most, lot-in};
-ghost use Rattle.rules.specs.Record.{head-size, fours, limit-of, lot-of-record, record-of};
+ghost use Rattle.rules.specs.Record.{head-size, fours, lot-of-record, record-of};
 ghost use Rattle.rules.specs.Refusals.{told};
 ghost use Rattle.rules.specs.Meets.{lot-meets};
 ghost use Rattle.rules.specs.Answers.{read-said, write-said};
@@ -32,16 +32,6 @@ ghost use Rattle.rules.specs.Entries.{beside, read-leaves, write-says, after-wr
 ghost use Rattle.laws.specs.Head.{HeadAccepted};
 
 const LONGEST: usize = HEAD + 4 * MOST;
-
-fn limit(present: bool, x: u32) -> Limit
-    ensures { λ r. ⌜ r ≡ limit-of present (toZ w32 x) ⌝ }
-{
-    if present {
-        Limit::At(Thousandths(signed(x)))
-    } else {
-        Limit::Absent
-    }
-}
 
 // So many numbers of four bytes each, and zeros after them.
 fn fours(bytes: &[u8], n: usize) -> [i32; MOST]
@@ -78,8 +68,8 @@ fn lot(bytes: &[u8]) -> ReadAnswer
     ensures { λ r. ⌜ read-said r ≡ beside (ruled (lot-meets (lot-of-record (now (bytes .entry)))) (lot-of-record (now (bytes .entry)))) ⌝ }
 {
     let n = bytes[12] as usize;
-    let upper = limit(bytes[3] % 2 == 1, word(bytes, 4));
-    let lower = limit(bytes[3] / 2 % 2 == 1, word(bytes, 8));
+    let upper = upper(bytes);
+    let lower = lower(bytes);
     let numbers = fours(&bytes[HEAD..], n);
     match refusals::lot(&numbers[..n], upper, lower) {
         Outcome::Refused(refusal) => refused(refusal),
@@ -105,7 +95,7 @@ pub fn read(bytes: &[u8]) -> ReadAnswer
     }
 }
 
-// The record of a lot that is not refused, and zeros after it.
+// The record of a lot that does not say it has more readings than places, in the first bytes of an array.
 fn record_of(lot: HeldLot) -> [u8; LONGEST]
     requires { ⌜ lot .count ≤ most ⌝ }
     ensures { λ r. ⌜ take (head-size + 4 * lot .count) r ≡ record-of (lot-in lot) ⌝ }

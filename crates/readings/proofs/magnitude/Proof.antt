@@ -1,5 +1,5 @@
 -- A negative number z is below −1 by one less than its magnitude, so neither −1 − z nor the cast nor the sum leaves its width.
-use mathlib.Core.Path.{_≡_, subst⁻¹}
+use mathlib.Core.Path.{_≡_, ap, subst⁻¹, _∙_}
 use mathlib.Core.Bool.{true}
 use Prim.Native.Nat.{_+_}
 use native.Mathlib.Omega.{arith}
@@ -11,50 +11,41 @@ use lib.Signed.{ltZ, mag, nonNeg, yes-nonNeg}
 use mir.Syntax.{w64}
 use mir.Val.{Fits, SFits}
 use mir.Facts.{toZ-ofZ, fits-natAbs}
-use Rattle.integers.proofs.Magnitude.{minus-one-less-negative}
+use Rattle.integers.proofs.Magnitude.{minus-one-less-negative, minus-one-less-fits}
 use Rattle.integers.proofs.Order.{ltZ-false}
 use Rattle.readings.proofs.magnitude.Statement.{statement}
 use Rattle.readings.proofs.magnitude.Tie as tie
 
-one-more : (n : ℤ) → ltZ n (pos 0) ≡ true → mag n + 1 ≡ natAbs n
+below : (c : tie.Then1) → ltZ (c .before .args .z) (pos 0) ≡ true
+below c = let f = c .before .fits .z in simp toZ-ofZ at (c .if1 .taken)
+
+less : (c : tie.Then1) → SFits w64 (negsuc 0 -ℤ c .before .args .z) × T (nonNeg (negsuc 0 -ℤ c .before .args .z))
+less c = minus-one-less-fits (c .before .args .z) (c .before .fits .z) (below c)
+
+one-more : (z : ℤ) → ltZ z (pos 0) ≡ true → mag z + 1 ≡ natAbs z
 one-more (pos n) e = absurd (omega (arith, ltb-true n 0 e))
 one-more (negsuc n) e = omega arith
 
-record Short (z d : ℤ) : Type 0 where
-  fits : SFits w64 d
-  cast : T (nonNeg d) × Fits w64 (natAbs d)
-  sum : Fits w64 (natAbs d + 1)
-  whole : natAbs d + 1 ≡ natAbs z
-
-short : (z : ℤ) → SFits w64 z → ltZ z (pos 0) ≡ true → Short z (negsuc 0 -ℤ z)
-short z f e =
-    let m : SFits w64 (pos (mag z)) = record { sfits = f .sfits } in
-    subst⁻¹ (Short z) (minus-one-less-negative z e)
-    (record {
-      fits = m;
-      cast = (tt, fits-natAbs tt m);
-      sum = subst⁻¹ (Fits w64) (one-more z e) (fits-natAbs tt f);
-      whole = one-more z e;
-    })
+whole : (c : tie.Then1) → natAbs (negsuc 0 -ℤ c .before .args .z) + 1 ≡ natAbs (c .before .args .z)
+whole c =
+    ap (λ (d : ℤ). natAbs d + 1) (minus-one-less-negative (c .before .args .z) (below c)) ∙ one-more (c .before .args .z) (below c)
 
 sub-result : tie.Need-sub-result
 sub-result c =
     let f = c .before .fits .z in
-    simp toZ-ofZ (short (c .before .args .z) f (simp toZ-ofZ at (c .if1 .taken)) .fits)
+    simp toZ-ofZ (less c .0)
 
 cast-result : tie.Need-cast-result
 cast-result c =
     let f = c .before .fits .z in
-    let s = short (c .before .args .z) f (simp toZ-ofZ at (c .if1 .taken)) in
-    let g = s .fits in
-    simp toZ-ofZ (s .cast)
+    let g = less c .0 in
+    simp toZ-ofZ (less c .1, fits-natAbs tt g)
 
 add-result : tie.Need-add-result
 add-result c =
     let f = c .before .fits .z in
-    let s = short (c .before .args .z) f (simp toZ-ofZ at (c .if1 .taken)) in
-    let g = s .fits in
-    simp toZ-ofZ (s .sum)
+    let g = less c .0 in
+    simp toZ-ofZ (subst⁻¹ (Fits w64) (whole c) (fits-natAbs tt f))
 
 cast-result-2 : tie.Need-cast-result-2
 cast-result-2 c =
@@ -64,9 +55,8 @@ cast-result-2 c =
 returns : tie.Need-returns
 returns c =
     let f = c .before .fits .z in
-    let s = short (c .before .args .z) f (simp toZ-ofZ at (c .if1 .taken)) in
-    let g = s .fits in
-    simp toZ-ofZ (s .whole)
+    let g = less c .0 in
+    simp toZ-ofZ (whole c)
 
 returns-2 : tie.Need-returns-2
 returns-2 c = search needs

@@ -7,13 +7,11 @@ use borrow.Author.Needs.{needs}
 use lib.IntN.{ℤ, pos}
 use lib.ListN.{length, length-drop, take, drop, replicate}
 use lib.Seq.{take-all, take-at}
-use mir.Syntax.{w32}
-use mir.Val.{toZ}
 use Rattle.rules.specs.declared.Thousandths.{Thousandths}
 use Rattle.rules.specs.Units.{thousandths}
 use Rattle.rules.specs.Said.{answers, checked}
 use Rattle.rules.specs.Lot.{most, lot-of}
-use Rattle.rules.specs.Record.{fours, has-upper, has-lower, n-field, limit-of, head-size, lot-of-record}
+use Rattle.rules.specs.Record.{fours, n-field, head-size, lot-of-record}
 use Rattle.rules.specs.Meets.{lot-meets}
 use Rattle.rules.specs.Answers.{outcome-said}
 use Rattle.rules.specs.Entries.{held, beside}
@@ -23,15 +21,7 @@ use Rattle.record.proofs.lot.Statement.{statement}
 use Rattle.record.proofs.lot.Tie as tie
 
 abbrev bytes : tie.After-fours → List ℕ
-bytes c = c .before .before .before .before .before .before .before .before .before .before .args .bytes .now
-
-upper-is : (c : tie.After-fours) → c .before .before .before .before .before .limit .result ≡ lot-of-record (bytes c) .upper
-unfolding lot-of-record
-upper-is c = c .before .before .before .before .before .limit .ensures ∙ ap (λ (x : ℕ). limit-of (has-upper (bytes c)) (toZ w32 x)) (c .before .before .before .before .before .before .word .ensures)
-
-lower-is : (c : tie.After-fours) → c .before .before .limit2 .result ≡ lot-of-record (bytes c) .lower
-unfolding lot-of-record
-lower-is c = c .before .before .limit2 .ensures ∙ ap (λ (x : ℕ). limit-of (has-lower (bytes c)) (toZ w32 x)) (c .before .before .before .word2 .ensures)
+bytes c = c .before .before .before .before .before .before .args .bytes .now
 
 numbers-are : (c : tie.After-fours) → c .fours .result ≡ fours (n-field (bytes c)) (drop head-size (bytes c)) ++ replicate (most - n-field (bytes c)) (pos 0)
 numbers-are c =
@@ -47,7 +37,7 @@ readings-are c =
 outcome-is : (c : tie.After-lot) → outcome-said (c .lot .result) ≡ checked (lot-meets (lot-of-record (bytes (c .before .before))))
 unfolding lot-of-record
 outcome-is c =
-    c .lot .ensures ∙ (λ i. checked (lot-meets (lot-of (upper-is (c .before .before) i) (lower-is (c .before .before) i) (readings-are (c .before .before) i))))
+    c .lot .ensures ∙ (λ i. checked (lot-meets (lot-of (c .before .before .before .before .before .upper .ensures i) (c .before .before .before .before .lower .ensures i) (readings-are (c .before .before) i))))
 
 -- Zeros in their places.
 zeros : (k : ℕ) → map thousandths (replicate k (pos 0)) ≡ replicate k (thousandths (pos 0))
@@ -60,23 +50,11 @@ shared-slice-read-n c = search needs
 cast-n : tie.Need-cast-n
 cast-n c = search needs
 
-shared-slice-read-limit : tie.Need-shared-slice-read-limit
-shared-slice-read-limit c = search needs
+upper-requires : tie.Need-upper-requires
+upper-requires c κs = search needs
 
-word-requires : tie.Need-word-requires
-word-requires c κs = search needs
-
-limit-requires : tie.Need-limit-requires
-limit-requires c κs = search needs
-
-shared-slice-read-limit-2 : tie.Need-shared-slice-read-limit-2
-shared-slice-read-limit-2 c = search needs
-
-word-requires-2 : tie.Need-word-requires-2
-word-requires-2 c κs = search needs
-
-limit-requires-2 : tie.Need-limit-requires-2
-limit-requires-2 c κs = search needs
+lower-requires : tie.Need-lower-requires
+lower-requires c κs = search needs
 
 sub-fours : tie.Need-sub-fours
 sub-fours c = search needs
@@ -108,8 +86,8 @@ refused-requires c κs = search needs
 enum-told : tie.Need-enum-told
 enum-told c = search needs
 
-cast-t25 : tie.Need-cast-t25
-cast-t25 c = search needs
+cast-t19 : tie.Need-cast-t19
+cast-t19 c = search needs
 
 thousandths-requires : tie.Need-thousandths-requires
 thousandths-requires c κs = search needs
@@ -123,7 +101,7 @@ returns-2 c =
     let lot = c .before .before .before in
     let bs : List ℕ = bytes (lot .before .before) in
     let places : c .thousandths .result ≡ map thousandths (fours (n-field bs) (drop head-size bs)) ++ replicate (most - n-field bs) (thousandths (pos 0)) = c .thousandths .ensures ∙ ap (map thousandths) (numbers-are (lot .before .before)) ∙ map-append thousandths (fours (n-field bs) (drop head-size bs)) (replicate (most - n-field bs) (pos 0)) ∙ ap (λ (rs : List Thousandths). map thousandths (fours (n-field bs) (drop head-size bs)) ++ rs) (zeros (most - n-field bs)) in
-    (λ i. record { said = answers tt; lot = record { upper = upper-is (lot .before .before) i; lower = lower-is (lot .before .before) i; count = n-field bs; readings = places i } })
+    (λ i. record { said = answers tt; lot = record { upper = lot .before .before .before .before .before .upper .ensures i; lower = lot .before .before .before .before .lower .ensures i; count = n-field bs; readings = places i } })
     ∙ ap beside (sym (outcome-answers _ (outcome-is lot) _ (c .before .enum-told .given .1)))
 
 pub lot-spec : {M : Type 1} → statement M
@@ -132,12 +110,8 @@ lot-spec =
     (tie.spec
     shared-slice-read-n
     cast-n
-    shared-slice-read-limit
-    word-requires
-    limit-requires
-    shared-slice-read-limit-2
-    word-requires-2
-    limit-requires-2
+    upper-requires
+    lower-requires
     sub-fours
     part-fours-start
     part-fours-end
@@ -148,7 +122,7 @@ lot-spec =
     enum-known-refusal
     refused-requires
     enum-told
-    cast-t25
+    cast-t19
     thousandths-requires
     returns
     returns-2)

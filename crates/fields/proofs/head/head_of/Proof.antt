@@ -1,3 +1,4 @@
+-- Byte by byte as the definition lays them out; the flags are two bits.
 use mathlib.Core.Path.{_≡_, sym, ap₂, _∙_}
 use mathlib.Core.List.{List, [], _∷_, _++_}
 use Prim.Native.Nat.{ℕ, _+_, _*_, _≤_}

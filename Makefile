@@ -1,12 +1,38 @@
-.PHONY: run test
+.PHONY: run lib test bench
 
-# The examples of document 01, worked out by the proved entries. The program is for x86-64; rt runs it on any machine of
-# the kit's and keeps what it wrote.
-run:
-	@mkdir -p target
-	@rt check desk > target/run.log 2>&1 || { cat target/run.log; exit 1; }
-	@cat target/log/desk.stdout
+include hosts/x86-64.mk
+
+LIBRARY := target/lib/libtulpavice
+SOURCES := $(shell find crates -name '*.rt' -o -name '*.antt')
+CFLAGS := -O2 -std=c99 -Wall -Wextra -Werror -Iinclude
+
+# Document 000's worked example, as the notebook shows it.
+run: target/host/notebook
+	@$(RUN) $<
+
+# The library for C, and for whoever loads it.
+lib: $(LIBRARY).a $(LIBRARY).so
 
 # The gate.
 test:
 	@python3 tests/gate.py
+
+# The library beside plain C on the same work.
+bench: target/host/bench
+	@python3 bench/bench.py $(RUN) $<
+
+# It is proved before it is compiled.
+$(LIBRARY).a: crates.txt $(SOURCES)
+	@mkdir -p $(@D)
+	@rt staticlib notebook > target/staticlib.log 2>&1 || { cat target/staticlib.log; exit 1; }
+	@cp target/staticlib/libnotebook.a $@
+
+$(LIBRARY).so: $(LIBRARY).a
+	@$(SHARED)
+
+target/host/%.o: hosts/%.c include/tulpavice.h
+	@mkdir -p $(@D)
+	@$(CC) $(CFLAGS) -c -o $@ $<
+
+target/host/%: target/host/%.o $(LIBRARY).a
+	@$(LINK) $^

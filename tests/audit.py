@@ -131,6 +131,15 @@ def exports_are_entries(root):
             for f in every if f.exported and f not in listed]
 
 
+def exports_are_declared(root):
+    """include/tulpavice.h declares every exported function, and no other."""
+    file = root / "include/tulpavice.h"
+    text = re.sub(r"/\*.*?\*/", "", file.read_text("utf-8"), flags=re.S) if file.exists() else ""
+    declared, exported = set(re.findall(r"\b(\w+)\(", text)), {f.name: f.place for f in functions(root) if f.exported}
+    return ([f"{exported[name]}: `{name}` is exported, and include/tulpavice.h does not declare it" for name in sorted(set(exported) - declared)]
+            + [f"include/tulpavice.h: no exported function is `{name}`" for name in sorted(declared - set(exported))])
+
+
 # In antt, where a name may begin, and a name.
 EDGE = r"""(?<![^\s(){}.;,@"])"""
 NAME = r"""[^\s(){}.;,@"]+"""
@@ -279,8 +288,8 @@ def edits_are_listed(root):
     return [f"{edit.relative_to(root)}: docs/PROMISES.md does not list it" for label, edit in labels if label not in listed]
 
 
-RULES = [promises_are_made, entries_ask_nothing, entries_exist, exports_are_entries, symbols_mean_the_librarys,
-         imports_are_used, no_hole_is_left, edits_are_refused_for_a_fact, edits_say_what_they_plant, edits_differ,
+RULES = [promises_are_made, entries_ask_nothing, entries_exist, exports_are_entries, exports_are_declared,
+         symbols_mean_the_librarys, imports_are_used, no_hole_is_left, edits_are_refused_for_a_fact, edits_say_what_they_plant, edits_differ,
          edits_are_listed]
 
 

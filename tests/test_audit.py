@@ -15,6 +15,7 @@ EDIT = "crates/toy/must-fail/one_more.edit"
 OTHER = "crates/toy/must-fail/one_less.edit"
 LOG = "target/must-fail/toy/one_more/.log"
 PROMISES = "docs/PROMISES.md"
+HEADER = "include/tulpavice.h"
 HERE = "/x/target/must-fail/toy/one_more/"
 
 TREE = {
@@ -107,6 +108,9 @@ module _ (n : ℕ) where
 |---|---|
 | `toy::none` | not an entry |
 ''',
+    HEADER: """/* toy_none(x) is not declared. */
+uint8_t toy_mean(const uint8_t *x, size_t n);
+""",
     EDIT: "# the mean is one too large\nfile: src/lib.rt\nold: { 1 }\nnew: { 2 }\n",
     OTHER: "# the mean is one too small\nfile: src/lib.rt\nold: { 1 }\nnew: { 0 }\n",
     LOG: f'''{HERE}proofs/Laws.antt:6:7: error: `law`: computed as far as they go, the two types differ
@@ -149,6 +153,11 @@ FAULTS = {
     "exports_are_entries": {
         "a_row_that_is_missing": (PROMISES, "| `toy::toy_mean` | total | it is the mean | toy/one_more |\n", ""),
         "a_row_with_no_code": (PROMISES, "| `toy::toy_mean` |", "| toy::toy_mean |"),
+    },
+    "exports_are_declared": {
+        "no_header": (HEADER, TREE[HEADER], None),
+        "an_export_in_a_comment": (HEADER, "uint8_t toy_mean(const uint8_t *x, size_t n);", "/* toy_mean(x, n) */"),
+        "a_name_that_is_not_exported": (HEADER, "toy_mean(", "toy_mean(int y);\nuint8_t toy_none("),
     },
     "symbols_mean_the_librarys": {
         "a_declaration": (SPEC, "what? :", "abbrev pub length : ℕ → ℕ\nwhat? :"),

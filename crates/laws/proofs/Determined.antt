@@ -11,11 +11,13 @@ use Rattle.rules.specs.declared.PayAnswer.{PayAnswer}
 use Rattle.rules.specs.declared.MixtureAnswer.{MixtureAnswer}
 use Rattle.rules.specs.declared.ReadAnswer.{ReadAnswer}
 use Rattle.rules.specs.declared.WriteAnswer.{WriteAnswer}
+use Rattle.rules.specs.declared.Limit.{Limit}
+use Rattle.rules.specs.declared.RowAnswer.{RowAnswer}
 use Rattle.rules.specs.Said.{Case, checked}
 use Rattle.rules.specs.Lot.{Lot}
-use Rattle.rules.specs.Answers.{outcome-said, mean-said, deviation-said, evaluation-said, pay-said, mixture-said, read-said, write-said}
-use Rattle.rules.specs.Entries.{mean-says, deviation-says, evaluation-says, pay-says, mixture-says, read-leaves, write-says, after-write}
-use Rattle.laws.proofs.Answers.{outcome-injective, mean-injective, deviation-injective, evaluation-injective, pay-injective, mixture-injective, read-injective, write-injective}
+use Rattle.rules.specs.Answers.{outcome-said, mean-said, deviation-said, evaluation-said, pay-said, mixture-said, read-said, write-said, row-said}
+use Rattle.rules.specs.Entries.{mean-says, deviation-says, evaluation-says, pay-says, mixture-says, read-leaves, write-says, after-write, row-says}
+use Rattle.laws.proofs.Answers.{outcome-injective, mean-injective, deviation-injective, evaluation-injective, pay-injective, mixture-injective, read-injective, write-injective, row-injective}
 
 pub outcome-determined : (cases : List Case) (r q : Outcome) → outcome-said r ≡ checked cases → outcome-said q ≡ checked cases → r ≡ q
 outcome-determined cases r q e f = outcome-injective r q (e ∙ sym f)
@@ -50,3 +52,6 @@ pub mixture-determined :
     (mixture minimum target : ℤ) (r q : MixtureAnswer) →
     mixture-said r ≡ mixture-says mixture minimum target → mixture-said q ≡ mixture-says mixture minimum target → r ≡ q
 mixture-determined mixture minimum target r q e f = mixture-injective r q (e ∙ sym f)
+
+pub row-determined : (upper lower : Limit) (bs : List ℕ) (r q : RowAnswer) → row-said r ≡ row-says upper lower bs → row-said q ≡ row-says upper lower bs → r ≡ q
+row-determined upper lower bs r q e f = row-injective r q (e ∙ sym f)

@@ -40,11 +40,13 @@ pub mod TurnedAnswers
 pub mod MovedAnswers
 pub mod PayAnswers
 pub mod Spelled
+pub mod Lent
 pub mod HeadAccepted
 pub mod AbsentLimits
 pub mod Records
 pub mod Returns
 pub mod RecordAnswers
 pub mod DeskRecord
+pub mod DeskHost
 pub mod Deviation
 pub mod Desk

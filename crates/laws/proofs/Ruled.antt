@@ -59,6 +59,17 @@ ruled-answers {A} cs a b e = by (checked cs) (sym (ruled-given cs a) ∙ e)
     by (refused k) h = absurd (let z : _≡_ {A = ℕ} 0 1 = cc in omega arith)
     by (answers u) h = (refl, ap value h)
 
+-- One that is given is given whatever the values are, and where none is, the values are answered.
+pub refused-alike : {A B : Type 0} (cs : List Case) (a : A) (b : B) {k : ℕ} → ruled cs a ≡ refused k → ruled cs b ≡ refused k
+refused-alike {A} cs a b {k} e = ruled-given cs b ∙ by (checked cs) (sym (ruled-given cs a) ∙ e)
+  where
+    by : (s : Said (Unit {0})) → given a s ≡ refused k → given b s ≡ refused k
+    by (refused j) h = ap (λ (said : Said A). given b (bare said)) h
+    by (answers u) h = absurd (let z : _≡_ {A = ℕ} 0 1 = cc in omega arith)
+
+pub ruled-unrefused : {A : Type 0} (cs : List Case) (a : A) → checked cs ≡ answers tt → ruled cs a ≡ answers a
+ruled-unrefused cs a e = ruled-given cs a ∙ ap (given a) e
+
 -- Where none is given, no case applies.
 pub none-met : (c : Case) (cs : List Case) → checked (c ∷ cs) ≡ answers tt → (c .applies ≡ false) × (checked cs ≡ answers tt)
 unfolding ruled

@@ -18,3 +18,4 @@ pub mod Taken
 pub mod Bytes
 pub mod Head
 pub mod Desk
+pub mod Lent

@@ -34,7 +34,8 @@ fn within(upper: Hundredths, lower: Hundredths) -> Hundredths
     Hundredths(upper.0 + lower.0 - HUNDRED_PERCENT)
 }
 
-fn percentages(a: Totals, upper: Limit, lower: Limit) -> Percentages
+// Both sides and PWL. Inner: the entries pass totals and limits of a lot that is not refused.
+pub fn percentages(a: Totals, upper: Limit, lower: Limit) -> Percentages
     requires { ⌜ Bounded a × (out-of-range upper ≡ false) × (out-of-range lower ≡ false) ⌝ }
     ensures { λ r. ⌜ r ≡ percentages-of nearest table-106-1 a upper lower ⌝ }
 {

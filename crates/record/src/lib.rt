@@ -33,8 +33,8 @@ ghost use Rattle.laws.specs.Head.{HeadAccepted};
 
 const LONGEST: usize = HEAD + 4 * MOST;
 
-// So many numbers of four bytes each, and zeros after them.
-fn fours(bytes: &[u8], n: usize) -> [i32; MOST]
+// So many numbers of four bytes each, and zeros after them. Inner: what is read has room for them.
+pub fn fours(bytes: &[u8], n: usize) -> [i32; MOST]
     requires { ⌜ (n ≤ most) × (4 * n ≤ length (now bytes)) ⌝ }
     ensures { λ r. ⌜ r ≡ fours n (now (bytes .entry)) ++ replicate (most - n) (pos 0) ⌝ }
 {

@@ -13,3 +13,4 @@ pub mod Meets
 pub mod Notebook
 pub mod Answers
 pub mod Entries
+pub mod Host

@@ -39,3 +39,12 @@ refusal-asked (answers a) = 0
 abbrev pub double-asked : (Row → Float) → Said Row → Float
 double-asked f (refused k) = fin false 0 (pos 0)
 double-asked f (answers row) = f row
+
+abbrev pub mean-asked : Said Row → Float
+mean-asked said = double-asked (λ (row : Row). row .mean) said
+
+abbrev pub deviation-asked : Said Row → Float
+deviation-asked said = double-asked (λ (row : Row). row .deviation) said
+
+abbrev pub pwl-asked : Said Row → Float
+pwl-asked said = double-asked (λ (row : Row). row .pwl) said

@@ -63,9 +63,13 @@ abbrev pub record-count-case : List ℕ → Case
 record-count-case bs =
     given-when Count (not (allowed (n-field bs)) || not (eqb (length-field bs) (length-of (n-field bs))))
 
--- 4, of readings as bytes, four to each: the size isn't 4n for an allowed n
+-- four bytes to each of an allowed number of readings
+abbrev pub size-fits : ℕ → Bool
+size-fits size = eqb (size % 4) 0 && allowed (size / 4)
+
+-- 4, of readings as bytes: the size isn't 4n for an allowed n
 abbrev pub bytes-count-case : List ℕ → Case
-bytes-count-case bs = given-when Count (not (eqb (length bs % 4) 0) || not (allowed (length bs / 4)))
+bytes-count-case bs = given-when Count (not (size-fits (length bs)))
 
 abbrev pub out-of-range : Limit → Bool
 out-of-range Absent = false

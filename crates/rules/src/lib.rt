@@ -1,4 +1,6 @@
 // The words of document 01: units, limits, refusals, lots and answers. What is right of them is in specs/; the crates above compute it.
+pub mod host;
+
 ghost use mathlib.Core.Path.{_≡_};
 ghost use Rattle.rules.specs.Refusals.{number-of};
 

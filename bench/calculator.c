@@ -1,0 +1,62 @@
+#include "calculator.h"
+
+#include "plain.h"
+
+static struct tulpavice_percentages no_evaluate(const int32_t *readings, size_t count, int32_t upper,
+                                                uint32_t upper_present, int32_t lower, uint32_t lower_present)
+{
+    (void)readings, (void)count, (void)upper, (void)upper_present, (void)lower, (void)lower_present;
+    return (struct tulpavice_percentages){0};
+}
+
+static struct tulpavice_percentages no_evaluate_lot(struct tulpavice_lot lot)
+{
+    (void)lot;
+    return (struct tulpavice_percentages){0};
+}
+
+static struct tulpavice_read no_read(const uint8_t *bytes, size_t size)
+{
+    (void)bytes, (void)size;
+    return (struct tulpavice_read){0};
+}
+
+static struct tulpavice_written no_write(struct tulpavice_lot lot, uint8_t *out, size_t room)
+{
+    (void)lot, (void)out, (void)room;
+    return (struct tulpavice_written){0};
+}
+
+static struct tulpavice_payment no_pay(int64_t vma, int64_t voids, int64_t density, int64_t price, int64_t quantity)
+{
+    (void)vma, (void)voids, (void)density, (void)price, (void)quantity;
+    return (struct tulpavice_payment){0};
+}
+
+static struct tulpavice_mixture_limits no_mixture(int64_t mixture, int32_t minimum, int32_t target)
+{
+    (void)mixture, (void)minimum, (void)target;
+    return (struct tulpavice_mixture_limits){0};
+}
+
+static struct tulpavice_mean no_mean(const int32_t *readings, size_t count)
+{
+    (void)readings, (void)count;
+    return (struct tulpavice_mean){0};
+}
+
+static struct tulpavice_deviation no_deviation(const int32_t *readings, size_t count)
+{
+    (void)readings, (void)count;
+    return (struct tulpavice_deviation){0};
+}
+
+const struct calculator library = {"library", tulpavice_evaluate, tulpavice_evaluate_lot, tulpavice_read,
+                                   tulpavice_write, tulpavice_pay, tulpavice_mixture, tulpavice_mean,
+                                   tulpavice_deviation};
+
+const struct calculator plain = {"plain", plain_evaluate, plain_evaluate_lot, plain_read, plain_write,
+                                 plain_pay, plain_mixture, plain_mean, plain_deviation};
+
+const struct calculator nothing = {"nothing", no_evaluate, no_evaluate_lot, no_read, no_write,
+                                   no_pay, no_mixture, no_mean, no_deviation};

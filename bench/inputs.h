@@ -1,0 +1,40 @@
+/* What the calculators are given: the same at every run. */
+#ifndef INPUTS_H
+#define INPUTS_H
+
+#include "tulpavice.h"
+
+enum { MOST_INPUTS = 4096, LONGEST_RECORD = 53, ROOM = 64 };
+
+struct record {
+    uint8_t bytes[LONGEST_RECORD];
+    size_t size;
+};
+
+struct sale {
+    int64_t vma;
+    int64_t voids;
+    int64_t density;
+    int64_t price;
+    int64_t quantity;
+};
+
+struct lookup {
+    int64_t mixture;
+    int32_t minimum;
+    int32_t target;
+};
+
+/* So many of each. A lot is evaluated from its places and as a whole, and written into so much room. */
+struct inputs {
+    size_t number;
+    struct tulpavice_lot lots[MOST_INPUTS];
+    size_t rooms[MOST_INPUTS];
+    struct record records[MOST_INPUTS];
+    struct sale sales[MOST_INPUTS];
+    struct lookup lookups[MOST_INPUTS];
+};
+
+void make_inputs(struct inputs *inputs, size_t number);
+
+#endif

@@ -1,0 +1,145 @@
+/* Each kind of work: one call, the loop of calls that is timed, every number of an answer, and an input shown. */
+#include "kinds.h"
+
+#include <inttypes.h>
+#include <stdio.h>
+#include <string.h>
+
+#define CALL(KIND, TYPE) static TYPE call_##KIND(const struct calculator *who, const struct inputs *inputs, size_t i)
+
+/* Of each answer `a` some numbers are summed, so that no call can be left out. */
+#define LOOP(KIND, TYPE, SUM)                                                                                        \
+    static uint64_t run_##KIND(const struct calculator *who, const struct inputs *inputs, size_t from, size_t calls) \
+    {                                                                                                                \
+        uint64_t sum = 0;                                                                                            \
+        for (size_t at = from; calls > 0; calls--) {                                                                 \
+            TYPE a = call_##KIND(who, inputs, at);                                                                   \
+            sum += (uint64_t)(SUM);                                                                                  \
+            at = at + 1 < inputs->number ? at + 1 : 0;                                                               \
+        }                                                                                                            \
+        return sum;                                                                                                  \
+    }
+
+#define ANSWER(KIND, TYPE, ...)                                                                                      \
+    static size_t answer_##KIND(const struct calculator *who, const struct inputs *inputs, size_t i, int64_t *taken) \
+    {                                                                                                                \
+        TYPE a = call_##KIND(who, inputs, i);                                                                        \
+        const int64_t numbers[] = {__VA_ARGS__};                                                                     \
+        memcpy(taken, numbers, sizeof numbers);                                                                      \
+        return sizeof numbers / sizeof *numbers;                                                                     \
+    }
+
+CALL(evaluate, struct tulpavice_percentages)
+{
+    const struct tulpavice_lot *lot = &inputs->lots[i];
+    return who->evaluate(lot->readings, lot->count, lot->upper, lot->upper_present, lot->lower, lot->lower_present);
+}
+LOOP(evaluate, struct tulpavice_percentages, a.refusal + a.upper + a.lower + a.pwl)
+ANSWER(evaluate, struct tulpavice_percentages, a.refusal, a.upper, a.lower, a.pwl)
+
+CALL(evaluate_lot, struct tulpavice_percentages)
+{
+    return who->evaluate_lot(inputs->lots[i]);
+}
+LOOP(evaluate_lot, struct tulpavice_percentages, a.refusal + a.upper + a.lower + a.pwl)
+ANSWER(evaluate_lot, struct tulpavice_percentages, a.refusal, a.upper, a.lower, a.pwl)
+
+CALL(read, struct tulpavice_read)
+{
+    return who->read(inputs->records[i].bytes, inputs->records[i].size);
+}
+LOOP(read, struct tulpavice_read, a.refusal + a.lot.count + (uint32_t)a.lot.readings[1])
+ANSWER(read, struct tulpavice_read, a.refusal, a.lot.upper, a.lot.upper_present, a.lot.lower, a.lot.lower_present,
+       a.lot.count, a.lot.readings[0], a.lot.readings[1], a.lot.readings[2], a.lot.readings[3], a.lot.readings[4],
+       a.lot.readings[5], a.lot.readings[6], a.lot.readings[7], a.lot.readings[8], a.lot.readings[9])
+
+static uint8_t out[ROOM];
+
+CALL(write, struct tulpavice_written)
+{
+    return who->write(inputs->lots[i], out, inputs->rooms[i]);
+}
+LOOP(write, struct tulpavice_written, a.refusal + a.size + out[a.size / 2])
+
+/* What lies past a record, or under a refused one, is to stay: the whole memory is part of the answer. */
+static size_t answer_write(const struct calculator *who, const struct inputs *inputs, size_t i, int64_t *taken)
+{
+    memset(out, 0xA5, sizeof out);
+    struct tulpavice_written a = call_write(who, inputs, i);
+    taken[0] = a.refusal;
+    taken[1] = (int64_t)a.size;
+    for (size_t j = 0; j < sizeof out; j++)
+        taken[2 + j] = out[j];
+    return 2 + sizeof out;
+}
+
+CALL(pay, struct tulpavice_payment)
+{
+    const struct sale *sale = &inputs->sales[i];
+    return who->pay(sale->vma, sale->voids, sale->density, sale->price, sale->quantity);
+}
+LOOP(pay, struct tulpavice_payment, a.refusal + a.composite + a.lot + a.pay)
+ANSWER(pay, struct tulpavice_payment, a.refusal, a.composite, a.vma, a.voids, a.density, a.lot, a.pay)
+
+CALL(mixture, struct tulpavice_mixture_limits)
+{
+    const struct lookup *lookup = &inputs->lookups[i];
+    return who->mixture(lookup->mixture, lookup->minimum, lookup->target);
+}
+LOOP(mixture, struct tulpavice_mixture_limits, a.refusal + (uint32_t)a.vma_upper + (uint32_t)a.density_lower)
+ANSWER(mixture, struct tulpavice_mixture_limits, a.refusal, a.vma_lower, a.vma_upper, a.voids_lower, a.voids_upper,
+       a.density_lower, a.density_upper)
+
+CALL(mean, struct tulpavice_mean)
+{
+    return who->mean(inputs->lots[i].readings, inputs->lots[i].count);
+}
+LOOP(mean, struct tulpavice_mean, a.refusal + (uint32_t)a.total + a.count)
+ANSWER(mean, struct tulpavice_mean, a.refusal, a.total, a.count)
+
+CALL(deviation, struct tulpavice_deviation)
+{
+    return who->deviation(inputs->lots[i].readings, inputs->lots[i].count);
+}
+LOOP(deviation, struct tulpavice_deviation, a.refusal + (uint32_t)a.deviation)
+ANSWER(deviation, struct tulpavice_deviation, a.refusal, a.deviation)
+
+static void show_lot(const struct inputs *inputs, size_t i)
+{
+    const struct tulpavice_lot *lot = &inputs->lots[i];
+    printf("upper %" PRId32 " (%" PRIu32 "), lower %" PRId32 " (%" PRIu32 "), room %zu, %" PRIu32 " readings:",
+           lot->upper, lot->upper_present, lot->lower, lot->lower_present, inputs->rooms[i], lot->count);
+    for (uint32_t j = 0; j < lot->count; j++)
+        printf(" %" PRId32, lot->readings[j]);
+}
+
+static void show_record(const struct inputs *inputs, size_t i)
+{
+    for (size_t j = 0; j < inputs->records[i].size; j++)
+        printf("%02X ", inputs->records[i].bytes[j]);
+}
+
+static void show_sale(const struct inputs *inputs, size_t i)
+{
+    const struct sale *sale = &inputs->sales[i];
+    printf("vma %" PRId64 ", voids %" PRId64 ", density %" PRId64 ", price %" PRId64 ", quantity %" PRId64, sale->vma,
+           sale->voids, sale->density, sale->price, sale->quantity);
+}
+
+static void show_lookup(const struct inputs *inputs, size_t i)
+{
+    const struct lookup *lookup = &inputs->lookups[i];
+    printf("mixture %" PRId64 ", minimum %" PRId32 ", target %" PRId32, lookup->mixture, lookup->minimum,
+           lookup->target);
+}
+
+#define KIND(NAME, SHOW, CALLS) {#NAME, run_##NAME, answer_##NAME, SHOW, CALLS}
+
+/* The deviation's search from zero is slow by design: a turn has fewer of it. */
+enum { CALLS = 512, SLOW_CALLS = CALLS / 32 };
+
+const struct kind kinds[KINDS] = {
+    KIND(evaluate, show_lot, CALLS), KIND(evaluate_lot, show_lot, CALLS), KIND(read, show_record, CALLS),
+    KIND(write, show_lot, CALLS),    KIND(pay, show_sale, CALLS),         KIND(mixture, show_lookup, CALLS),
+    KIND(mean, show_lot, CALLS),     KIND(deviation, show_lot, SLOW_CALLS),
+};

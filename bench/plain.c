@@ -1,0 +1,263 @@
+/* Document 01's rules in plain C, as one would write them by hand for speed: every check that the library makes, no
+   search or sum done twice, and nothing that only a machine would write. */
+#include "plain.h"
+
+#include <stdbool.h>
+
+#include "table.h"
+
+enum { FEWEST = 2, FARTHEST = 500000, WHOLE = 10000, LAST_ROW = 53, HEAD = 13 };
+
+struct totals {
+    int64_t n;
+    int64_t t;
+    int64_t v;
+};
+
+static bool out_of_range(int32_t x)
+{
+    return x < -FARTHEST || x > FARTHEST;
+}
+
+static bool outside(int64_t x, int64_t greatest)
+{
+    return x < 0 || x > greatest;
+}
+
+/* n, T and V; the refusal, 4 or 5, or 0 for none. Whether a reading is in range is seen while it is added. */
+static uint32_t total(const int32_t *readings, size_t count, struct totals *a)
+{
+    if (count < FEWEST || count > TULPAVICE_MOST)
+        return 4;
+    int64_t t = 0, z = 0;
+    for (size_t i = 0; i < count; i++) {
+        int64_t x = readings[i];
+        if (out_of_range(readings[i]))
+            return 5;
+        t += x;
+        z += x * x;
+    }
+    a->n = (int64_t)count;
+    a->t = t;
+    a->v = a->n * z - t * t;
+    return 0;
+}
+
+/* What two limits that are in range can still meet: 6 and 7. */
+static uint32_t limits_refused(int32_t upper, bool has_upper, int32_t lower, bool has_lower)
+{
+    if (!has_upper && !has_lower)
+        return 6;
+    if (has_upper && has_lower && lower > upper)
+        return 7;
+    return 0;
+}
+
+/* The largest k from 0 to 53 with k = 0 or (2k-1)^2 nV <= 1600 (n-1) D^2. */
+static unsigned row(int64_t nv, int64_t reach)
+{
+    unsigned low = 0, high = LAST_ROW;
+    while (low < high) {
+        unsigned middle = (low + high + 1) / 2;
+        int64_t odd = 2 * middle - 1;
+        if (odd * odd * nv <= reach)
+            low = middle;
+        else
+            high = middle - 1;
+    }
+    return low;
+}
+
+static int64_t side(const struct totals *a, int64_t d)
+{
+    int64_t entry = WHOLE;
+    if (a->v != 0)
+        entry = TABLE[a->n - FEWEST][row(a->n * a->v, 1600 * (a->n - 1) * d * d)];
+    return d < 0 ? WHOLE - entry : entry;
+}
+
+struct tulpavice_percentages plain_evaluate(const int32_t *readings, size_t count, int32_t upper,
+                                            uint32_t upper_present, int32_t lower, uint32_t lower_present)
+{
+    struct tulpavice_percentages answer = {0};
+    struct totals a;
+    answer.refusal = total(readings, count, &a);
+    if (answer.refusal == 4)
+        return answer;
+    if ((upper_present && out_of_range(upper)) || (lower_present && out_of_range(lower)))
+        answer.refusal = 5;
+    if (answer.refusal == 0)
+        answer.refusal = limits_refused(upper, upper_present, lower, lower_present);
+    if (answer.refusal != 0)
+        return answer;
+    answer.upper = upper_present ? side(&a, a.n * upper - a.t) : WHOLE;
+    answer.lower = lower_present ? side(&a, a.t - a.n * lower) : WHOLE;
+    answer.pwl = answer.upper + answer.lower - WHOLE;
+    return answer;
+}
+
+struct tulpavice_percentages plain_evaluate_lot(struct tulpavice_lot lot)
+{
+    return plain_evaluate(lot.readings, lot.count, lot.upper, lot.upper_present, lot.lower, lot.lower_present);
+}
+
+struct tulpavice_mean plain_mean(const int32_t *readings, size_t count)
+{
+    struct tulpavice_mean answer = {0};
+    struct totals a;
+    answer.refusal = total(readings, count, &a);
+    if (answer.refusal == 0) {
+        answer.total = (int32_t)a.t;
+        answer.count = (uint32_t)a.n;
+    }
+    return answer;
+}
+
+/* By a search from zero, as the library has it. */
+struct tulpavice_deviation plain_deviation(const int32_t *readings, size_t count)
+{
+    struct tulpavice_deviation answer = {0};
+    struct totals a;
+    answer.refusal = total(readings, count, &a);
+    if (answer.refusal == 0) {
+        int64_t pairs = a.n * (a.n - 1), s = 0;
+        while ((2 * s + 1) * (2 * s + 1) * pairs <= 4 * a.v)
+            s++;
+        answer.deviation = (int32_t)s;
+    }
+    return answer;
+}
+
+struct tulpavice_payment plain_pay(int64_t vma, int64_t voids, int64_t density, int64_t price, int64_t quantity)
+{
+    struct tulpavice_payment answer = {0};
+    if (outside(vma, WHOLE) || outside(voids, WHOLE) || outside(density, WHOLE) || outside(price, 10000000) ||
+        outside(quantity, 100000000)) {
+        answer.refusal = 9;
+        return answer;
+    }
+    int64_t weighted = 3 * (10600 + vma) + 3 * (10600 + voids) + 4 * (10600 + density);
+    answer.composite = (weighted + 100) / 200;
+    answer.vma = vma < 5000;
+    answer.voids = voids < 5000;
+    answer.density = density < 5000;
+    answer.lot = answer.vma | answer.voids | answer.density;
+    answer.pay = (price * quantity * answer.composite + 50000) / 100000;
+    return answer;
+}
+
+struct tulpavice_mixture_limits plain_mixture(int64_t mixture, int32_t minimum, int32_t target)
+{
+    static const int32_t density[4][2] = {{92500, 97000}, {92200, 97000}, {93000, 98000}, {91500, 97000}};
+    struct tulpavice_mixture_limits answer = {0};
+    if (minimum < -FARTHEST + 700 || minimum > FARTHEST - 3000 || target < -FARTHEST + 1350 ||
+        target > FARTHEST - 1350) {
+        answer.refusal = 5;
+    } else if (outside(mixture, 3)) {
+        answer.refusal = 9;
+    } else {
+        answer.vma_lower = minimum - 700;
+        answer.vma_upper = minimum + 3000;
+        answer.voids_lower = target - 1350;
+        answer.voids_upper = target + 1350;
+        answer.density_lower = density[mixture][0];
+        answer.density_upper = density[mixture][1];
+    }
+    return answer;
+}
+
+static uint32_t word(const uint8_t *bytes)
+{
+    return (uint32_t)bytes[0] << 24 | (uint32_t)bytes[1] << 16 | (uint32_t)bytes[2] << 8 | bytes[3];
+}
+
+static void put(uint8_t *out, uint32_t x)
+{
+    out[0] = (uint8_t)(x >> 24);
+    out[1] = (uint8_t)(x >> 16);
+    out[2] = (uint8_t)(x >> 8);
+    out[3] = (uint8_t)x;
+}
+
+/* What the first 13 bytes can meet: 1 to 4. */
+static uint32_t head_refused(const uint8_t *bytes, size_t size)
+{
+    if (size < HEAD)
+        return 1;
+    size_t length = (size_t)bytes[0] << 8 | bytes[1];
+    unsigned flags = bytes[3], n = bytes[12];
+    if (length != size - 2)
+        return 1;
+    if (bytes[2] != 1)
+        return 2;
+    if (flags > 3 || (!(flags & 1) && word(bytes + 4) != 0) || (!(flags & 2) && word(bytes + 8) != 0))
+        return 3;
+    if (n < FEWEST || n > TULPAVICE_MOST || length != 11 + 4 * n)
+        return 4;
+    return 0;
+}
+
+/* The lot of a record whose head is not refused, and what it can meet: 5 to 7. An absent limit's number is 0. */
+static uint32_t take_lot(const uint8_t *bytes, struct tulpavice_lot *lot)
+{
+    lot->upper = (int32_t)word(bytes + 4);
+    lot->upper_present = bytes[3] & 1;
+    lot->lower = (int32_t)word(bytes + 8);
+    lot->lower_present = bytes[3] >> 1;
+    lot->count = bytes[12];
+    if (out_of_range(lot->upper) || out_of_range(lot->lower))
+        return 5;
+    for (size_t i = 0; i < lot->count; i++) {
+        lot->readings[i] = (int32_t)word(bytes + HEAD + 4 * i);
+        if (out_of_range(lot->readings[i]))
+            return 5;
+    }
+    return limits_refused(lot->upper, lot->upper_present, lot->lower, lot->lower_present);
+}
+
+struct tulpavice_read plain_read(const uint8_t *bytes, size_t size)
+{
+    struct tulpavice_read answer = {0};
+    uint32_t refusal = head_refused(bytes, size);
+    if (refusal == 0)
+        refusal = take_lot(bytes, &answer.lot);
+    if (refusal != 0)
+        return (struct tulpavice_read){.refusal = refusal};
+    return answer;
+}
+
+static uint32_t lot_refused(const struct tulpavice_lot *lot)
+{
+    if (lot->count < FEWEST || lot->count > TULPAVICE_MOST)
+        return 4;
+    if ((lot->upper_present && out_of_range(lot->upper)) || (lot->lower_present && out_of_range(lot->lower)))
+        return 5;
+    for (size_t i = 0; i < lot->count; i++) {
+        if (out_of_range(lot->readings[i]))
+            return 5;
+    }
+    return limits_refused(lot->upper, lot->upper_present, lot->lower, lot->lower_present);
+}
+
+struct tulpavice_written plain_write(struct tulpavice_lot lot, uint8_t *out, size_t room)
+{
+    struct tulpavice_written answer = {0};
+    size_t size = HEAD + 4 * (size_t)lot.count;
+    answer.refusal = lot_refused(&lot);
+    if (answer.refusal == 0 && room < size)
+        answer.refusal = 8;
+    if (answer.refusal != 0)
+        return answer;
+    bool has_upper = lot.upper_present, has_lower = lot.lower_present;
+    out[0] = 0;
+    out[1] = (uint8_t)(size - 2);
+    out[2] = 1;
+    out[3] = (uint8_t)(has_upper | has_lower << 1);
+    put(out + 4, has_upper ? (uint32_t)lot.upper : 0);
+    put(out + 8, has_lower ? (uint32_t)lot.lower : 0);
+    out[12] = (uint8_t)lot.count;
+    for (size_t i = 0; i < lot.count; i++)
+        put(out + HEAD + 4 * i, (uint32_t)lot.readings[i]);
+    answer.size = size;
+    return answer;
+}

@@ -1,0 +1,262 @@
+// Answers as the plain numbers that a host in C is given, and its numbers as a limit and a lot.
+use places::numbers;
+use rules::DeviationAnswer;
+use rules::Evaluation;
+use rules::HeldLot;
+use rules::Limit;
+use rules::Limits;
+use rules::MeanAnswer;
+use rules::MixtureAnswer;
+use rules::Outcome;
+use rules::PayAnswer;
+use rules::ReadAnswer;
+use rules::Thousandths;
+use rules::Verdict;
+use rules::WriteAnswer;
+use rules::host::HostDeviation;
+use rules::host::HostLimit;
+use rules::host::HostLot;
+use rules::host::HostMean;
+use rules::host::HostMixtureLimits;
+use rules::host::HostPair;
+use rules::host::HostPayment;
+use rules::host::HostPercentages;
+use rules::host::HostRead;
+use rules::host::HostWritten;
+ghost use mathlib.Core.Path.{_≡_};
+ghost use Rattle.rules.specs.Notebook.{lent-limit, refusal-asked};
+ghost use Rattle.rules.specs.Answers.{outcome-said, mean-said, deviation-said, evaluation-said, pay-said, mixture-said, read-said, write-said};
+ghost use Rattle.rules.specs.Host.{host-mean, host-deviation, host-percentages, verdict-number, host-payment, host-pair, host-mixture-limits, held-limit, held-lot, limit-numbers, host-lot, host-read, host-written};
+
+// The refusal, 0 for none.
+pub fn refusal(said: Outcome) -> u32
+    ensures { λ r. ⌜ r ≡ refusal-asked (outcome-said said) ⌝ }
+{
+    match said {
+        Outcome::Refused(refusal) => refusal.number(),
+        Outcome::Answers => 0,
+    }
+}
+
+// Presence 0 is absent, and the number is then not read; any other is present.
+pub fn limit(number: i32, presence: u32) -> Limit
+    ensures { λ r. ⌜ r ≡ lent-limit number presence ⌝ }
+{
+    if presence == 0 {
+        Limit::Absent
+    } else {
+        Limit::At(Thousandths(number))
+    }
+}
+
+pub fn mean(answer: MeanAnswer) -> HostMean
+    ensures { λ r. ⌜ r ≡ host-mean (mean-said answer) ⌝ }
+{
+    match answer {
+        MeanAnswer::Refused(refusal) => HostMean {
+            refusal: refusal.number(),
+            total: 0,
+            count: 0,
+        },
+        MeanAnswer::Answers(mean) => HostMean {
+            refusal: 0,
+            total: mean.total.0,
+            count: mean.count,
+        },
+    }
+}
+
+pub fn deviation(answer: DeviationAnswer) -> HostDeviation
+    ensures { λ r. ⌜ r ≡ host-deviation (deviation-said answer) ⌝ }
+{
+    match answer {
+        DeviationAnswer::Refused(refusal) => HostDeviation {
+            refusal: refusal.number(),
+            deviation: 0,
+        },
+        DeviationAnswer::Answers(s) => HostDeviation {
+            refusal: 0,
+            deviation: s.0,
+        },
+    }
+}
+
+pub fn percentages(answer: Evaluation) -> HostPercentages
+    ensures { λ r. ⌜ r ≡ host-percentages (evaluation-said answer) ⌝ }
+{
+    match answer {
+        Evaluation::Refused(refusal) => HostPercentages {
+            refusal: refusal.number(),
+            upper: 0,
+            lower: 0,
+            pwl: 0,
+        },
+        Evaluation::Answers(p) => HostPercentages {
+            refusal: 0,
+            upper: p.upper.0,
+            lower: p.lower.0,
+            pwl: p.pwl.0,
+        },
+    }
+}
+
+fn verdict(verdict: Verdict) -> u32
+    ensures { λ r. ⌜ r ≡ verdict-number verdict ⌝ }
+{
+    match verdict {
+        Verdict::Accepted => 0,
+        Verdict::Rejected => 1,
+    }
+}
+
+pub fn payment(answer: PayAnswer) -> HostPayment
+    ensures { λ r. ⌜ r ≡ host-payment (pay-said answer) ⌝ }
+{
+    match answer {
+        PayAnswer::Refused(refusal) => HostPayment {
+            refusal: refusal.number(),
+            composite: 0,
+            vma: 0,
+            voids: 0,
+            density: 0,
+            lot: 0,
+            pay: 0,
+        },
+        PayAnswer::Answers(p) => {
+            let vma = p.vma;
+            let voids = p.voids;
+            let density = p.density;
+            let lot = p.lot;
+            HostPayment {
+                refusal: 0,
+                composite: p.composite.0,
+                vma: verdict(vma),
+                voids: verdict(voids),
+                density: verdict(density),
+                lot: verdict(lot),
+                pay: p.pay.0,
+            }
+        }
+    }
+}
+
+fn pair(limits: Limits) -> HostPair
+    ensures { λ r. ⌜ r ≡ host-pair limits ⌝ }
+{
+    HostPair {
+        lower: limits.lower.0,
+        upper: limits.upper.0,
+    }
+}
+
+pub fn mixture_limits(answer: MixtureAnswer) -> HostMixtureLimits
+    ensures { λ r. ⌜ r ≡ host-mixture-limits (mixture-said answer) ⌝ }
+{
+    match answer {
+        MixtureAnswer::Refused(refusal) => HostMixtureLimits {
+            refusal: refusal.number(),
+            vma: HostPair { lower: 0, upper: 0 },
+            voids: HostPair { lower: 0, upper: 0 },
+            density: HostPair { lower: 0, upper: 0 },
+        },
+        MixtureAnswer::Answers(l) => HostMixtureLimits {
+            refusal: 0,
+            vma: pair(l.vma),
+            voids: pair(l.voids),
+            density: pair(l.density),
+        },
+    }
+}
+
+fn held_limit(given: HostLimit) -> Limit
+    ensures { λ r. ⌜ r ≡ held-limit given ⌝ }
+{
+    limit(given.number, given.presence)
+}
+
+// The lot in memory that a host's numbers are.
+pub fn held_lot(lot: HostLot) -> HeldLot
+    ensures { λ r. ⌜ r ≡ held-lot lot ⌝ }
+{
+    HeldLot {
+        upper: held_limit(lot.upper),
+        lower: held_limit(lot.lower),
+        count: lot.count,
+        readings: [
+            Thousandths(lot.first),
+            Thousandths(lot.second),
+            Thousandths(lot.third),
+            Thousandths(lot.fourth),
+            Thousandths(lot.fifth),
+            Thousandths(lot.sixth),
+            Thousandths(lot.seventh),
+            Thousandths(lot.eighth),
+            Thousandths(lot.ninth),
+            Thousandths(lot.tenth),
+        ],
+    }
+}
+
+fn limit_numbers(limit: Limit) -> HostLimit
+    ensures { λ r. ⌜ r ≡ limit-numbers limit ⌝ }
+{
+    match limit {
+        Limit::Absent => HostLimit {
+            number: 0,
+            presence: 0,
+        },
+        Limit::At(z) => HostLimit {
+            number: z.0,
+            presence: 1,
+        },
+    }
+}
+
+fn host_lot(lot: HeldLot) -> HostLot
+    ensures { λ r. ⌜ r ≡ host-lot lot ⌝ }
+{
+    let upper = lot.upper;
+    let lower = lot.lower;
+    let held = lot.readings;
+    let readings = numbers(held);
+    HostLot {
+        upper: limit_numbers(upper),
+        lower: limit_numbers(lower),
+        count: lot.count,
+        first: readings[0],
+        second: readings[1],
+        third: readings[2],
+        fourth: readings[3],
+        fifth: readings[4],
+        sixth: readings[5],
+        seventh: readings[6],
+        eighth: readings[7],
+        ninth: readings[8],
+        tenth: readings[9],
+    }
+}
+
+pub fn read(answer: ReadAnswer) -> HostRead
+    ensures { λ r. ⌜ r ≡ host-read (read-said answer) ⌝ }
+{
+    let said = answer.said;
+    HostRead {
+        refusal: refusal(said),
+        lot: host_lot(answer.lot),
+    }
+}
+
+pub fn written(answer: WriteAnswer) -> HostWritten
+    ensures { λ r. ⌜ r ≡ host-written (write-said answer) ⌝ }
+{
+    match answer {
+        WriteAnswer::Refused(refusal) => HostWritten {
+            refusal: refusal.number(),
+            size: 0,
+        },
+        WriteAnswer::Answers(size) => HostWritten {
+            refusal: 0,
+            size: size,
+        },
+    }
+}

@@ -1,0 +1,122 @@
+-- Document 01, "The notebook", for every entry: what a host is given in plain numbers. The refusal's number stands first, 0 for none;
+-- of what is refused every other number is 0.
+use mathlib.Core.List.{List, [], _∷_, map}
+use Prim.Native.Nat.{ℕ}
+use lib.IntN.{ℤ, pos}
+use lib.ListN.{getD}
+use Rattle.rules.specs.declared.Thousandths.{Thousandths}
+use Rattle.rules.specs.declared.Limit.{Limit}
+use Rattle.rules.specs.declared.Limit.the-variants.{Absent, At}
+use Rattle.rules.specs.declared.HeldLot.{HeldLot}
+use Rattle.rules.specs.declared.Mean.{Mean}
+use Rattle.rules.specs.declared.Percentages.{Percentages}
+use Rattle.rules.specs.declared.Verdict.{Verdict}
+use Rattle.rules.specs.declared.Verdict.the-variants.{Accepted, Rejected}
+use Rattle.rules.specs.declared.Payment.{Payment}
+use Rattle.rules.specs.declared.Limits.{Limits}
+use Rattle.rules.specs.declared.MixtureLimits.{MixtureLimits}
+use Rattle.rules.specs.declared.host.HostLimit.{HostLimit}
+use Rattle.rules.specs.declared.host.HostLot.{HostLot}
+use Rattle.rules.specs.declared.host.HostMean.{HostMean}
+use Rattle.rules.specs.declared.host.HostDeviation.{HostDeviation}
+use Rattle.rules.specs.declared.host.HostPercentages.{HostPercentages}
+use Rattle.rules.specs.declared.host.HostPayment.{HostPayment}
+use Rattle.rules.specs.declared.host.HostPair.{HostPair}
+use Rattle.rules.specs.declared.host.HostMixtureLimits.{HostMixtureLimits}
+use Rattle.rules.specs.declared.host.HostRead.{HostRead}
+use Rattle.rules.specs.declared.host.HostWritten.{HostWritten}
+use Rattle.rules.specs.Units.{thousandths}
+use Rattle.rules.specs.Said.{Said, refused, answers}
+use Rattle.rules.specs.Lot.{places}
+use Rattle.rules.specs.Notebook.{lent-limit, refusal-asked}
+use Rattle.rules.specs.Answers.{ReadSaid}
+
+abbrev pub host-mean : Said Mean → HostMean
+host-mean (refused k) = record { refusal = k; total = pos 0; count = 0 }
+host-mean (answers m) = record { refusal = 0; total = m .total .0; count = m .count }
+
+abbrev pub host-deviation : Said Thousandths → HostDeviation
+host-deviation (refused k) = record { refusal = k; deviation = pos 0 }
+host-deviation (answers s) = record { refusal = 0; deviation = s .0 }
+
+abbrev pub host-percentages : Said Percentages → HostPercentages
+host-percentages (refused k) = record { refusal = k; upper = pos 0; lower = pos 0; pwl = pos 0 }
+host-percentages (answers p) = record { refusal = 0; upper = p .upper .0; lower = p .lower .0; pwl = p .pwl .0 }
+
+-- a verdict's number: 0 accepted, 1 rejected
+abbrev pub verdict-number : Verdict → ℕ
+verdict-number Accepted = 0
+verdict-number Rejected = 1
+
+abbrev pub host-payment : Said Payment → HostPayment
+host-payment (refused k) =
+    record { refusal = k; composite = pos 0; vma = 0; voids = 0; density = 0; lot = 0; pay = pos 0 }
+host-payment (answers p) =
+    record {
+      refusal = 0;
+      composite = p .composite .0;
+      vma = verdict-number (p .vma);
+      voids = verdict-number (p .voids);
+      density = verdict-number (p .density);
+      lot = verdict-number (p .lot);
+      pay = p .pay .0;
+    }
+
+abbrev pub host-pair : Limits → HostPair
+host-pair l = record { lower = l .lower .0; upper = l .upper .0 }
+
+abbrev pub host-mixture-limits : Said MixtureLimits → HostMixtureLimits
+host-mixture-limits (refused k) =
+    let none : HostPair = record { lower = pos 0; upper = pos 0 } in
+    record { refusal = k; vma = none; voids = none; density = none }
+host-mixture-limits (answers l) =
+    record { refusal = 0; vma = host-pair (l .vma); voids = host-pair (l .voids); density = host-pair (l .density) }
+
+-- ---- a lot, both ways
+
+abbrev pub held-limit : HostLimit → Limit
+held-limit l = lent-limit (l .number) (l .presence)
+
+-- the lot in memory that a host's numbers are
+abbrev pub held-lot : HostLot → HeldLot
+held-lot h =
+    record {
+      upper = held-limit (h .upper);
+      lower = held-limit (h .lower);
+      count = h .count;
+      readings =
+          map thousandths
+          (h .first ∷ h .second ∷ h .third ∷ h .fourth ∷ h .fifth ∷
+          h .sixth ∷ h .seventh ∷ h .eighth ∷ h .ninth ∷ h .tenth ∷ []);
+    }
+
+-- and back
+abbrev pub limit-numbers : Limit → HostLimit
+limit-numbers Absent = record { number = pos 0; presence = 0 }
+limit-numbers (At z) = record { number = z .0; presence = 1 }
+
+unfoldable pub host-lot : HeldLot → HostLot
+host-lot held =
+    record {
+      upper = limit-numbers (held .upper);
+      lower = limit-numbers (held .lower);
+      count = held .count;
+      first = getD (places held) 0 (pos 0);
+      second = getD (places held) 1 (pos 0);
+      third = getD (places held) 2 (pos 0);
+      fourth = getD (places held) 3 (pos 0);
+      fifth = getD (places held) 4 (pos 0);
+      sixth = getD (places held) 5 (pos 0);
+      seventh = getD (places held) 6 (pos 0);
+      eighth = getD (places held) 7 (pos 0);
+      ninth = getD (places held) 8 (pos 0);
+      tenth = getD (places held) 9 (pos 0);
+    }
+
+-- The blank lot that a refused read leaves has nothing but zeros.
+abbrev pub host-read : ReadSaid → HostRead
+host-read r = record { refusal = refusal-asked (r .said); lot = host-lot (r .lot) }
+
+abbrev pub host-written : Said ℕ → HostWritten
+host-written (refused k) = record { refusal = k; size = 0 }
+host-written (answers size) = record { refusal = 0; size = size }

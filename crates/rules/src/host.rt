@@ -1,0 +1,83 @@
+// What a host in C gives and is given: plain numbers, laid out as C lays them out. Of each answer the refusal's number stands first.
+// A struct that is passed by value holds no array, so a lot has a field for each of its places, which C lays out as it does an array of ten.
+
+#[repr(C)]
+pub struct HostLimit {
+    pub number: i32,
+    pub presence: u32,
+}
+
+#[repr(C)]
+pub struct HostLot {
+    pub upper: HostLimit,
+    pub lower: HostLimit,
+    pub count: u32,
+    pub first: i32,
+    pub second: i32,
+    pub third: i32,
+    pub fourth: i32,
+    pub fifth: i32,
+    pub sixth: i32,
+    pub seventh: i32,
+    pub eighth: i32,
+    pub ninth: i32,
+    pub tenth: i32,
+}
+
+#[repr(C)]
+pub struct HostMean {
+    pub refusal: u32,
+    pub total: i32,
+    pub count: u32,
+}
+
+#[repr(C)]
+pub struct HostDeviation {
+    pub refusal: u32,
+    pub deviation: i32,
+}
+
+#[repr(C)]
+pub struct HostPercentages {
+    pub refusal: u32,
+    pub upper: i64,
+    pub lower: i64,
+    pub pwl: i64,
+}
+
+#[repr(C)]
+pub struct HostPayment {
+    pub refusal: u32,
+    pub composite: i64,
+    pub vma: u32,
+    pub voids: u32,
+    pub density: u32,
+    pub lot: u32,
+    pub pay: i64,
+}
+
+#[repr(C)]
+pub struct HostPair {
+    pub lower: i32,
+    pub upper: i32,
+}
+
+#[repr(C)]
+pub struct HostMixtureLimits {
+    pub refusal: u32,
+    pub vma: HostPair,
+    pub voids: HostPair,
+    pub density: HostPair,
+}
+
+#[repr(C)]
+pub struct HostRead {
+    pub refusal: u32,
+    pub lot: HostLot,
+}
+
+#[repr(C)]
+pub struct HostWritten {
+    pub refusal: u32,
+    pub size: usize,
+}

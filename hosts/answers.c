@@ -1,0 +1,355 @@
+/* Answers calls of the library, so that another program's answers can be held against them: calls come from standard
+   input, one a line, and each is answered by a line, which begins with the name of the call.
+
+     lot U UP L LP N r1..rN           the mean, the percentages, and of the row its refusal, mean and PWL
+     deviation U UP L LP N r1..rN     the deviation, and the row's
+     bytes U UP L LP HEX              the row of readings that come as bytes
+     held U UP L LP COUNT r0..r9      the percentages of a lot
+     pay VMA VOIDS DENSITY PRICE QUANTITY
+     mixture NUMBER MINIMUM TARGET
+     read HEX                         the lot; if it was accepted, its record written again
+     write U UP L LP COUNT r0..r9 ROOM
+                                      what was written, with the lent memory and a guard on each side of it; if it was
+                                      accepted, the lot read again
+
+   U and L are the limits, UP and LP their presences. HEX is bytes in hexadecimal, or - for NULL. Numbers are decimal; a
+   double is given by its bits and memory byte by byte, in hexadecimal. */
+#include <errno.h>
+#include <stdio.h>
+#include <stdlib.h>
+#include <string.h>
+
+#include "tulpavice.h"
+
+enum { GUARD = 8, MOST_ROOM = 1000, MOST_MEMORY = GUARD + MOST_ROOM + GUARD };
+
+static char *line; /* the call */
+static size_t line_room;
+static char *rest; /* what of it is still to be read */
+static unsigned long line_number;
+
+static void *lent; /* readings or bytes; it grows, and is never cleared */
+static size_t lent_room;
+
+static void not_understood(void)
+{
+    fprintf(stderr, "line %lu is not understood: %.100s\n", line_number, line);
+    exit(2);
+}
+
+static void *grown(void *memory, size_t size)
+{
+    void *more = realloc(memory, size);
+    if (!more) {
+        fprintf(stderr, "no memory for line %lu\n", line_number);
+        exit(2);
+    }
+    return more;
+}
+
+static int next_line(void)
+{
+    size_t length = 0;
+    line_number++;
+    for (;;) {
+        if (line_room - length < 2)
+            line = grown(line, line_room = 2 * line_room + 4096);
+        line[length] = 0;
+        if (!fgets(line + length, (int)(line_room - length), stdin))
+            break;
+        length += strlen(line + length);
+        if (length > 0 && line[length - 1] == '\n') {
+            line[length - 1] = 0;
+            break;
+        }
+    }
+    rest = line;
+    return length > 0;
+}
+
+static int64_t number(int64_t least, int64_t most)
+{
+    char *end;
+    errno = 0;
+    long long value = strtoll(rest, &end, 10);
+    if (end == rest || errno || value < least || value > most)
+        not_understood();
+    rest = end;
+    return value;
+}
+
+static int32_t number_i32(void) { return (int32_t)number(INT32_MIN, INT32_MAX); }
+static uint32_t number_u32(void) { return (uint32_t)number(0, UINT32_MAX); }
+static int64_t number_i64(void) { return number(INT64_MIN, INT64_MAX); }
+
+/* Memory for this many items; NULL for none. */
+static void *lend(size_t count, size_t size)
+{
+    if (count * size > lent_room)
+        lent = grown(lent, lent_room = count * size);
+    return count ? lent : NULL;
+}
+
+static int nibble(char digit)
+{
+    if (digit >= '0' && digit <= '9')
+        return digit - '0';
+    if (digit >= 'a' && digit <= 'f')
+        return digit - 'a' + 10;
+    not_understood();
+    return 0;
+}
+
+static const uint8_t *hex(size_t *size)
+{
+    rest += strspn(rest, " ");
+    size_t digits = strlen(rest);
+    if (digits == 1 && *rest == '-') {
+        rest++;
+        *size = 0;
+        return NULL;
+    }
+    if (digits == 0 || digits % 2)
+        not_understood();
+    *size = digits / 2;
+    uint8_t *bytes = lend(*size, 1);
+    for (size_t i = 0; i < *size; i++, rest += 2)
+        bytes[i] = (uint8_t)(nibble(rest[0]) << 4 | nibble(rest[1]));
+    return bytes;
+}
+
+/* The limits of the call, which stand before everything else. */
+static struct tulpavice_lot limits(void)
+{
+    struct tulpavice_lot lot = {0, 0, 0, 0, 0, {0}};
+    lot.upper = number_i32();
+    lot.upper_present = number_u32();
+    lot.lower = number_i32();
+    lot.lower_present = number_u32();
+    return lot;
+}
+
+static struct tulpavice_lot whole_lot(void)
+{
+    struct tulpavice_lot lot = limits();
+    lot.count = number_u32();
+    for (int i = 0; i < TULPAVICE_MOST; i++)
+        lot.readings[i] = number_i32();
+    return lot;
+}
+
+/* The readings as plain numbers, and after them the same as bytes. */
+static const int32_t *readings(size_t *count, const uint8_t **as_bytes)
+{
+    *count = (size_t)number(0, 1000000);
+    int32_t *numbers = lend(2 * *count, sizeof *numbers);
+    uint8_t *bytes = *count ? (uint8_t *)(numbers + *count) : NULL;
+    for (size_t i = 0; i < *count; i++) {
+        numbers[i] = number_i32();
+        uint32_t bits = (uint32_t)numbers[i];
+        for (int j = 0; j < 4; j++)
+            bytes[4 * i + j] = (uint8_t)(bits >> (24 - 8 * j));
+    }
+    *as_bytes = bytes;
+    return numbers;
+}
+
+static void print(int64_t value)
+{
+    char text[24];
+    size_t at = sizeof text;
+    uint64_t left = value < 0 ? -(uint64_t)value : (uint64_t)value;
+    do
+        text[--at] = (char)('0' + left % 10);
+    while (left /= 10);
+    if (value < 0)
+        text[--at] = '-';
+    text[--at] = ' ';
+    fwrite(text + at, 1, sizeof text - at, stdout);
+}
+
+static void print_bytes(const uint8_t *bytes, size_t size)
+{
+    char text[1 + 2 * MOST_MEMORY] = " ";
+    for (size_t i = 0; i < size; i++) {
+        text[1 + 2 * i] = "0123456789abcdef"[bytes[i] >> 4];
+        text[2 + 2 * i] = "0123456789abcdef"[bytes[i] & 15];
+    }
+    fwrite(text, 1, 1 + 2 * size, stdout);
+}
+
+static void print_double(double value)
+{
+    uint64_t bits;
+    memcpy(&bits, &value, sizeof bits);
+    uint8_t bytes[8];
+    for (int i = 0; i < 8; i++)
+        bytes[i] = (uint8_t)(bits >> (56 - 8 * i));
+    print_bytes(bytes, sizeof bytes);
+}
+
+static void print_percentages(struct tulpavice_percentages answer)
+{
+    print(answer.refusal);
+    print(answer.upper);
+    print(answer.lower);
+    print(answer.pwl);
+}
+
+static void print_read(struct tulpavice_read answer)
+{
+    print(answer.refusal);
+    print(answer.lot.upper);
+    print(answer.lot.upper_present);
+    print(answer.lot.lower);
+    print(answer.lot.lower_present);
+    print(answer.lot.count);
+    for (int i = 0; i < TULPAVICE_MOST; i++)
+        print(answer.lot.readings[i]);
+}
+
+static void answer_lot(void)
+{
+    struct tulpavice_lot l = limits();
+    size_t count;
+    const uint8_t *bytes;
+    const int32_t *numbers = readings(&count, &bytes);
+    struct tulpavice_mean mean = tulpavice_mean(numbers, count);
+    print(mean.refusal);
+    print(mean.total);
+    print(mean.count);
+    print_percentages(tulpavice_evaluate(numbers, count, l.upper, l.upper_present, l.lower, l.lower_present));
+    print(tulpavice_row_refusal(bytes, 4 * count, l.upper, l.upper_present, l.lower, l.lower_present));
+    print_double(tulpavice_row_mean(bytes, 4 * count, l.upper, l.upper_present, l.lower, l.lower_present));
+    print_double(tulpavice_row_pwl(bytes, 4 * count, l.upper, l.upper_present, l.lower, l.lower_present));
+}
+
+static void answer_deviation(void)
+{
+    struct tulpavice_lot l = limits();
+    size_t count;
+    const uint8_t *bytes;
+    const int32_t *numbers = readings(&count, &bytes);
+    struct tulpavice_deviation answer = tulpavice_deviation(numbers, count);
+    print(answer.refusal);
+    print(answer.deviation);
+    print_double(tulpavice_row_deviation(bytes, 4 * count, l.upper, l.upper_present, l.lower, l.lower_present));
+}
+
+static void answer_bytes(void)
+{
+    struct tulpavice_lot l = limits();
+    size_t size;
+    const uint8_t *bytes = hex(&size);
+    print(tulpavice_row_refusal(bytes, size, l.upper, l.upper_present, l.lower, l.lower_present));
+    print_double(tulpavice_row_mean(bytes, size, l.upper, l.upper_present, l.lower, l.lower_present));
+    print_double(tulpavice_row_deviation(bytes, size, l.upper, l.upper_present, l.lower, l.lower_present));
+    print_double(tulpavice_row_pwl(bytes, size, l.upper, l.upper_present, l.lower, l.lower_present));
+}
+
+static void answer_held(void)
+{
+    print_percentages(tulpavice_evaluate_lot(whole_lot()));
+}
+
+static void answer_pay(void)
+{
+    int64_t given[5];
+    for (int i = 0; i < 5; i++)
+        given[i] = number_i64();
+    struct tulpavice_payment answer = tulpavice_pay(given[0], given[1], given[2], given[3], given[4]);
+    print(answer.refusal);
+    print(answer.composite);
+    print(answer.vma);
+    print(answer.voids);
+    print(answer.density);
+    print(answer.lot);
+    print(answer.pay);
+}
+
+static void answer_mixture(void)
+{
+    int64_t mixture = number_i64();
+    int32_t minimum = number_i32();
+    int32_t target = number_i32();
+    struct tulpavice_mixture_limits answer = tulpavice_mixture(mixture, minimum, target);
+    print(answer.refusal);
+    print(answer.vma_lower);
+    print(answer.vma_upper);
+    print(answer.voids_lower);
+    print(answer.voids_upper);
+    print(answer.density_lower);
+    print(answer.density_upper);
+}
+
+/* A size that the library answers is not trusted with this program's memory. */
+static size_t at_most(size_t size, size_t most) { return size < most ? size : most; }
+
+static void answer_read(void)
+{
+    size_t size;
+    const uint8_t *bytes = hex(&size);
+    struct tulpavice_read answer = tulpavice_read(bytes, size);
+    print_read(answer);
+    if (answer.refusal == 0) {
+        uint8_t again[64] = {0};
+        struct tulpavice_written written = tulpavice_write(answer.lot, again, sizeof again);
+        print(written.refusal);
+        print((int64_t)written.size);
+        print_bytes(again, at_most(written.size, sizeof again));
+    }
+}
+
+static void answer_write(void)
+{
+    struct tulpavice_lot lot = whole_lot();
+    size_t room = (size_t)number(0, MOST_ROOM);
+    uint8_t memory[MOST_MEMORY];
+    for (size_t i = 0; i < GUARD + room + GUARD; i++)
+        memory[i] = (uint8_t)(171 + 37 * i);
+    struct tulpavice_written answer = tulpavice_write(lot, room ? memory + GUARD : NULL, room);
+    print(answer.refusal);
+    print((int64_t)answer.size);
+    print_bytes(memory, GUARD + room + GUARD);
+    if (answer.refusal == 0)
+        print_read(tulpavice_read(memory + GUARD, at_most(answer.size, room)));
+}
+
+static const struct {
+    const char *name;
+    void (*answer)(void);
+} calls[] = {
+    {"lot", answer_lot},
+    {"deviation", answer_deviation},
+    {"bytes", answer_bytes},
+    {"held", answer_held},
+    {"pay", answer_pay},
+    {"mixture", answer_mixture},
+    {"read", answer_read},
+    {"write", answer_write},
+};
+
+static void answer_line(void)
+{
+    size_t length = strcspn(rest, " ");
+    for (size_t i = 0; i < sizeof calls / sizeof *calls; i++) {
+        if (strlen(calls[i].name) == length && memcmp(rest, calls[i].name, length) == 0) {
+            rest += length;
+            fwrite(calls[i].name, 1, length, stdout);
+            calls[i].answer();
+            if (*rest)
+                not_understood();
+            putchar('\n');
+            return;
+        }
+    }
+    not_understood();
+}
+
+int main(void)
+{
+    setvbuf(stdout, NULL, _IOFBF, 1 << 16);
+    while (next_line())
+        answer_line();
+    return fflush(stdout) == 0 && !ferror(stdout) && !ferror(stdin) ? 0 : 2;
+}

@@ -1,0 +1,147 @@
+/* Tulpavice: percent within limits (PWL) of asphalt lots, and what is paid for them.
+
+   Units. Readings, limits and deviations are whole thousandths, from -500,000 to 500,000 for readings and limits.
+   Percentages are hundredths of a percent, 0 to 10,000. A composite is in thousandths, money in cents, a quantity in
+   hundredths of a ton.
+
+   Any numbers and any bytes may be passed. Every entry either answers or gives one refusal:
+
+     1  a record of fewer than 13 bytes, or whose length is not its size less 2
+     2  a record whose version is not 1
+     3  unknown flags in a record, or an absent limit whose bytes are not zero
+     4  not 2 to 10 readings, or a size that does not fit their number
+     5  a present limit or a reading out of range; in the mixture lookup, a limit that would be
+     6  both limits absent
+     7  the lower limit above the upper
+     8  lent memory shorter than what is to be written
+     9  in pay: a number below 0, a PWL above 10,000, a price above 10,000,000 or a quantity above 100,000,000;
+        in the mixture lookup: a mixture number not 0 to 3
+
+   The lowest that applies is given, of those that the entry can meet. Each answer has the refusal's number first, 0 for
+   none; of what is refused every other number is 0.
+
+   A limit is a number and a presence: 0 is absent, and its number is then not read; any other is present.
+   Lent memory is a pointer and how many items it points to. NULL will do where there are none. */
+#ifndef TULPAVICE_H
+#define TULPAVICE_H
+
+#include <stddef.h>
+#include <stdint.h>
+
+#ifdef __cplusplus
+extern "C" {
+#endif
+
+/* The most readings that a lot can hold. */
+#define TULPAVICE_MOST 10
+
+/* A lot: its limits, how many readings it has, and those readings from the first place on. What stands in the places
+   after them is not read. */
+struct tulpavice_lot {
+    int32_t upper;
+    uint32_t upper_present;
+    int32_t lower;
+    uint32_t lower_present;
+    uint32_t count;
+    int32_t readings[TULPAVICE_MOST];
+};
+
+/* The mean, unrounded: the sum of the readings, in thousandths, and their count. */
+struct tulpavice_mean {
+    uint32_t refusal;
+    int32_t total;
+    uint32_t count;
+};
+
+struct tulpavice_deviation {
+    uint32_t refusal;
+    int32_t deviation;
+};
+
+/* The percentage of each side, and percent within limits. */
+struct tulpavice_percentages {
+    uint32_t refusal;
+    int64_t upper;
+    int64_t lower;
+    int64_t pwl;
+};
+
+/* The composite, the verdict on each characteristic and on the lot (0 accepted, 1 rejected), and what is paid. */
+struct tulpavice_payment {
+    uint32_t refusal;
+    int64_t composite;
+    uint32_t vma;
+    uint32_t voids;
+    uint32_t density;
+    uint32_t lot;
+    int64_t pay;
+};
+
+struct tulpavice_mixture_limits {
+    uint32_t refusal;
+    int32_t vma_lower;
+    int32_t vma_upper;
+    int32_t voids_lower;
+    int32_t voids_upper;
+    int32_t density_lower;
+    int32_t density_upper;
+};
+
+/* A lot that was read. A limit's presence is 0 or 1; an absent limit's number, and the places after the readings, are 0. */
+struct tulpavice_read {
+    uint32_t refusal;
+    struct tulpavice_lot lot;
+};
+
+/* How many bytes were written. */
+struct tulpavice_written {
+    uint32_t refusal;
+    size_t size;
+};
+
+/* Of some readings, as plain numbers. Refusals 4 and 5. */
+struct tulpavice_mean tulpavice_mean(const int32_t *readings, size_t count);
+
+/* To the nearest thousandth; shown to people, and no percentage depends on it. Refusals 4 and 5. */
+struct tulpavice_deviation tulpavice_deviation(const int32_t *readings, size_t count);
+
+/* Both sides and PWL, of some readings and two limits. Refusals 4 to 7. */
+struct tulpavice_percentages tulpavice_evaluate(const int32_t *readings, size_t count, int32_t upper,
+                                                uint32_t upper_present, int32_t lower, uint32_t lower_present);
+
+/* The same of a lot. A count above its places is refusal 4. */
+struct tulpavice_percentages tulpavice_evaluate_lot(struct tulpavice_lot lot);
+
+/* Of the PWLs of three characteristics, a price in cents a ton and a quantity in hundredths of a ton. The pay is what
+   would be paid, whatever the verdict. Refusal 9. */
+struct tulpavice_payment tulpavice_pay(int64_t vma, int64_t voids, int64_t density, int64_t price, int64_t quantity);
+
+/* The limits of the three characteristics of a mixture (0 IL-4.75, 1 IL-19.0 and 25.0, 2 SMA, 3 all others), from a VMA
+   minimum and a voids target. Refusals 5 and 9. */
+struct tulpavice_mixture_limits tulpavice_mixture(int64_t mixture, int32_t minimum, int32_t target);
+
+/* The lot whose record fills these bytes. Refusals 1 to 7. */
+struct tulpavice_read tulpavice_read(const uint8_t *bytes, size_t size);
+
+/* Writes a lot's record, 13 + 4n bytes, from the start of lent memory, and leaves what lies past it. A refused write
+   leaves every byte. Refusals 4 to 8. */
+struct tulpavice_written tulpavice_write(struct tulpavice_lot lot, uint8_t *out, size_t room);
+
+/* The notebook's row. Readings come as bytes, four to each, two's complement, highest first, as in a record. The
+   refusal, 4 to 7 or 0 for none, and each double are asked for by calls of their own; of a refused lot each double is 0.
+   The mean and the deviation are in the readings' own units, thousandths over 1000, and PWL is in percent; each is one
+   division of exact doubles. */
+uint32_t tulpavice_row_refusal(const uint8_t *readings, size_t size, int32_t upper, uint32_t upper_present,
+                               int32_t lower, uint32_t lower_present);
+double tulpavice_row_mean(const uint8_t *readings, size_t size, int32_t upper, uint32_t upper_present, int32_t lower,
+                          uint32_t lower_present);
+double tulpavice_row_deviation(const uint8_t *readings, size_t size, int32_t upper, uint32_t upper_present,
+                               int32_t lower, uint32_t lower_present);
+double tulpavice_row_pwl(const uint8_t *readings, size_t size, int32_t upper, uint32_t upper_present, int32_t lower,
+                         uint32_t lower_present);
+
+#ifdef __cplusplus
+}
+#endif
+
+#endif

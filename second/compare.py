@@ -1,0 +1,84 @@
+"""Runs the library beside the second program: python3 second/compare.py [--seed N] COMMAND...
+
+COMMAND answers calls over the library, as hosts/answers.c does. It is fed every call of second/calls.py, and each
+answer is held against that of second/papers.py. Succeeds if none differs and there were enough calls of each kind.
+"""
+import argparse
+import collections
+import subprocess
+import sys
+import tempfile
+
+import calls
+import papers
+
+# What each kind of call is reported as, and how many there have to be.
+KINDS = {
+    "lot": ("lots", 200_000),
+    "deviation": ("deviations", 30_000),
+    "bytes": ("rows of bytes", 10_000),
+    "held": ("lots held", 30_000),
+    "read": ("records read", 100_000),
+    "write": ("records written", 100_000),
+    "pay": ("pay inputs", 200_000),
+    "mixture": ("mixture lookups", 200_000),
+}
+SHOWN = 5
+
+
+def cut(text):
+    return text if len(text) <= 400 else f"{text[:400]}... ({len(text):,} characters)"
+
+
+def show(call, library, second):
+    print(f"call    {cut(call)}\nlibrary {cut(library)}\nsecond  {cut(second)}")
+
+
+def compare(asked, answers):
+    """How many calls of each kind were compared and how many differ, and whether the answers stopped short."""
+    compared, differ = collections.Counter(), collections.Counter()
+    for call in asked:
+        library = answers.readline()
+        if not library.endswith("\n"):
+            print(f"the library's answers stop at call {compared.total() + 1:,}: {cut(call.rstrip())}")
+            return compared, differ, True
+        kind = call.split(maxsplit=1)[0]
+        second = papers.answer(call)
+        compared[kind] += 1
+        if library.rstrip("\n") != second:
+            differ[kind] += 1
+            if differ[kind] <= SHOWN:
+                show(call.rstrip(), library.rstrip(), second)
+    return compared, differ, False
+
+
+def main():
+    parser = argparse.ArgumentParser()
+    parser.add_argument("--seed", type=int, default=106)
+    parser.add_argument("command", nargs=argparse.REMAINDER)
+    given = parser.parse_args()
+    if not given.command:
+        parser.error("which command answers?")
+    # calls go by way of a file: neither program then waits for the other to read
+    with tempfile.NamedTemporaryFile("w") as file:
+        file.writelines(f"{call}\n" for call in calls.calls(given.seed))
+        file.flush()
+        with open(file.name) as fed, open(file.name) as asked:
+            with subprocess.Popen(given.command, stdin=fed, stdout=subprocess.PIPE, text=True) as host:
+                compared, differ, failed = compare(asked, host.stdout)
+                if host.stdout.readline():
+                    print("the library answers more than it was asked")
+                    failed = True
+    if host.returncode != 0:
+        print(f"{given.command[0]} ends with status {host.returncode}")
+        failed = True
+    for kind, (name, least) in KINDS.items():
+        print(f"{name} {compared[kind]:,} compared, {differ[kind]:,} differ")
+        if compared[kind] < least:
+            print(f"  too few: at least {least:,} are to be compared")
+            failed = True
+    return 1 if failed or differ.total() else 0
+
+
+if __name__ == "__main__":
+    sys.exit(main())

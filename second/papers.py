@@ -1,0 +1,305 @@
+"""The calculator a second time, as the papers write it: mean, deviation and quality index in wide decimals.
+
+The library works with whole numbers squared. Here the mean is a quotient, the deviation a root and the index a quotient
+of the two, and pay is reckoned in percent, dollars and tons. Run by itself it answers calls from standard input, a line
+each, as hosts/answers.c does over the library.
+
+Why 60 digits decide an exact tie. With n readings the square of the index is a fraction whose denominator divides
+n * (n * (sum of squares) - (sum)^2), which is at most 2.5e14. Two fractions that differ, one over that and one over
+1600, differ by at least 1/(1600 * 2.5e14) = 2.5e-18. So an index below 2.7 that is not exactly a midpoint (2k-1)/40 is
+more than 4e-19 away from it. The error of working with 60 digits is under 1e-40: sums of ten squares of at most 1e12,
+and a deviation, where there is one, of at least 0.3. Rounding to 30 decimals therefore puts a tie exactly on its
+midpoint and moves no other index across one. A deviation, itself below 1e6, is either half way between two thousandths
+or more than 1e-9 off.
+"""
+import decimal
+import pathlib
+import struct
+import sys
+from decimal import ROUND_HALF_UP, Decimal
+from typing import NamedTuple
+
+decimal.getcontext().prec = 60
+SNAP = Decimal(1).scaleb(-30)
+HALF = Decimal("0.5")
+
+RANGE = 500_000
+MOST = 10
+
+
+class Lot(NamedTuple):
+    """Limits (None for absent), how many readings there are said to be, and those of them that have a place."""
+
+    upper: int | None
+    lower: int | None
+    count: int
+    readings: list[int]
+
+
+def lot_of(upper, upper_present, lower, lower_present, count, readings):
+    return Lot(upper if upper_present else None, lower if lower_present else None, count, readings[:count])
+
+
+# Table 106-1 of document 004, in percent: a list of 54 entries for each number of readings.
+
+
+def columns():
+    lines = pathlib.Path(__file__).parent.parent.joinpath("data", "table-106-1.tsv").read_text().splitlines()
+    rows = [[Decimal(cell) for cell in line.split("\t")[1:]] for line in lines[1:]]
+    return {count: list(column) for count, column in enumerate(zip(*rows), start=2)}
+
+
+TABLE = columns()
+LAST = 53
+
+
+# Documents 003 and 004: from readings to percent within limits.
+
+
+def mean(readings):
+    return Decimal(sum(readings)) / len(readings)
+
+
+def deviation(readings):
+    middle = mean(readings)
+    squares = sum((reading - middle) * (reading - middle) for reading in readings)
+    return (squares / (len(readings) - 1)).sqrt()
+
+
+def side(count, distance, spread):
+    """The percentage on one side, whose limit lies this far outside the mean."""
+    if spread == 0:
+        return 100 if distance >= 0 else 0
+    index = distance / spread
+    row = int((abs(index) * 20).quantize(SNAP) + HALF)
+    entry = TABLE[count][min(row, LAST)]
+    return entry if index >= 0 else 100 - entry
+
+
+def evaluate(lot):
+    """Upper, lower and PWL, in hundredths of a percent."""
+    middle, spread = mean(lot.readings), deviation(lot.readings)
+    upper = 100 if lot.upper is None else side(lot.count, lot.upper - middle, spread)
+    lower = 100 if lot.lower is None else side(lot.count, middle - lot.lower, spread)
+    return [int(percent * 100) for percent in (upper, lower, upper + lower - 100)]
+
+
+def rounded_deviation(readings):
+    return int(deviation(readings).quantize(SNAP).to_integral_value(ROUND_HALF_UP))
+
+
+# Document 000: pay, and limits by mixture.
+
+WEIGHTS = Decimal("0.3"), Decimal("0.3"), Decimal("0.4")
+REJECTABLE = 50
+
+VMA_BELOW, VMA_ABOVE = Decimal("0.7"), Decimal("3.0")
+VOIDS_AROUND = Decimal("1.35")
+DENSITIES = [
+    (Decimal("92.5"), Decimal("97.0")),  # IL-4.75
+    (Decimal("92.2"), Decimal("97.0")),  # IL-19.0 and 25.0
+    (Decimal("93.0"), Decimal("98.0")),  # SMA
+    (Decimal("91.5"), Decimal("97.0")),  # all others
+]
+
+
+def payment(vma, voids, density, price, quantity):
+    """Composite in thousandths, the three verdicts and the lot's, and the pay in cents."""
+    percents = [Decimal(hundredths) / 100 for hundredths in (vma, voids, density)]
+    factors = [53 + HALF * percent for percent in percents]
+    weighted = sum(weight * factor for weight, factor in zip(WEIGHTS, factors))
+    composite = (weighted / 100).quantize(Decimal("0.001"), ROUND_HALF_UP)
+    dollars = (Decimal(price) / 100) * (Decimal(quantity) / 100) * composite
+    cents = dollars.quantize(Decimal("0.01"), ROUND_HALF_UP) * 100
+    verdicts = [int(percent < REJECTABLE) for percent in percents]
+    return [int(composite * 1000), *verdicts, max(verdicts), int(cents)]
+
+
+def offset_limits(minimum, target):
+    """The limits of VMA and of voids, in percent."""
+    minimum, target = Decimal(minimum) / 1000, Decimal(target) / 1000
+    return [minimum - VMA_BELOW, minimum + VMA_ABOVE, target - VOIDS_AROUND, target + VOIDS_AROUND]
+
+
+def mixture_limits(mixture, minimum, target):
+    return [int(limit * 1000) for limit in (*offset_limits(minimum, target), *DENSITIES[mixture])]
+
+
+# The lot record.
+
+HEAD = struct.Struct(">HBBiiB")  # bytes that follow, version, flags, upper, lower, count
+
+
+def pack(lot):
+    flags = (lot.upper is not None) + 2 * (lot.lower is not None)
+    head = HEAD.pack(11 + 4 * lot.count, 1, flags, lot.upper or 0, lot.lower or 0, lot.count)
+    return head + struct.pack(f">{lot.count}i", *lot.readings)
+
+
+def unpack(record):
+    _, _, flags, upper, lower, count = HEAD.unpack_from(record)
+    return lot_of(upper, flags & 1, lower, flags & 2, count, big_endian(record[HEAD.size :]))
+
+
+def big_endian(readings):
+    return [int.from_bytes(readings[at : at + 4], "big", signed=True) for at in range(0, len(readings), 4)]
+
+
+# Refusals: of each entry the numbers it can meet with what they are given for, lowest first.
+
+
+def refusal(tests, *given):
+    for number, applies in tests:
+        if applies(*given):
+            return number
+    return 0
+
+
+def outside(lot):
+    numbers = [*lot.readings, *(limit for limit in (lot.upper, lot.lower) if limit is not None)]
+    return max(numbers) > RANGE or min(numbers) < -RANGE
+
+
+def stray_flags(record):
+    _, _, flags, upper, lower, _ = HEAD.unpack_from(record)
+    return flags > 3 or (not flags & 1 and upper != 0) or (not flags & 2 and lower != 0)
+
+
+LOT = [
+    (4, lambda lot: not 2 <= lot.count <= MOST),
+    (5, outside),
+    (6, lambda lot: lot.upper is None and lot.lower is None),
+    (7, lambda lot: lot.upper is not None and lot.lower is not None and lot.lower > lot.upper),
+]
+READINGS = LOT[:2]  # for a lot without limits
+ROOM = [(8, lambda lot, room: room < HEAD.size + 4 * lot.count)]
+RECORD = [
+    (1, lambda record: len(record) < HEAD.size or int.from_bytes(record[:2], "big") != len(record) - 2),
+    (2, lambda record: record[2] != 1),
+    (3, stray_flags),
+    (4, lambda record: not 2 <= record[12] <= MOST or int.from_bytes(record[:2], "big") != 11 + 4 * record[12]),
+]
+PAY_MOST = 10_000, 10_000, 10_000, 10_000_000, 100_000_000
+PAY = [(9, lambda *given: any(number < 0 or number > most for number, most in zip(given, PAY_MOST)))]
+MIXTURE = [
+    (5, lambda _, minimum, target: any(abs(limit) > RANGE // 1000 for limit in offset_limits(minimum, target))),
+    (9, lambda mixture, *_: not 0 <= mixture <= 3),
+]
+
+
+# The answer lines. Each double of the notebook's row is one division, and is compared by its bits.
+
+
+def double(numerator, denominator):
+    return struct.pack(">d", float(numerator) / float(denominator)).hex()
+
+
+NOUGHT = double(0, 1)
+
+
+def spaced(*numbers):
+    return " ".join(map(str, numbers))
+
+
+def ten_places(lot):
+    """A lot as it stands in memory after reading: an absent limit and a place without a reading are 0."""
+    limits = [lot.upper or 0, int(lot.upper is not None), lot.lower or 0, int(lot.lower is not None)]
+    return [*limits, lot.count, *lot.readings, *[0] * (MOST - lot.count)]
+
+
+def answer_lot(upper, upper_present, lower, lower_present, count, *readings):
+    lot = lot_of(upper, upper_present, lower, lower_present, count, readings)
+    unread = refusal(READINGS, Lot(None, None, count, readings))
+    mean_answer = spaced(unread, 0, 0) if unread else spaced(0, sum(readings), count)
+    refused = refusal(LOT, lot)
+    if refused:
+        return f"{mean_answer} {refused} 0 0 0 {refused} {NOUGHT} {NOUGHT}"
+    sides = evaluate(lot)
+    return f"{mean_answer} {spaced(0, *sides)} 0 {double(sum(readings), 1000 * count)} {double(sides[2], 100)}"
+
+
+def answer_deviation(upper, upper_present, lower, lower_present, count, *readings):
+    unread = refusal(READINGS, Lot(None, None, count, readings))
+    if unread:
+        return f"{unread} 0 {NOUGHT}"
+    lot = lot_of(upper, upper_present, lower, lower_present, count, readings)
+    rounded = rounded_deviation(readings)
+    return f"0 {rounded} {NOUGHT if refusal(LOT, lot) else double(rounded, 1000)}"
+
+
+def answer_bytes(upper, upper_present, lower, lower_present, data):
+    # a size that is no multiple of four fits no number of readings, as 0 does
+    count = 0 if len(data) % 4 else len(data) // 4
+    lot = lot_of(upper, upper_present, lower, lower_present, count, big_endian(data))
+    refused = refusal(LOT, lot)
+    if refused:
+        return f"{refused} {NOUGHT} {NOUGHT} {NOUGHT}"
+    row = (sum(lot.readings), 1000 * count), (rounded_deviation(lot.readings), 1000), (evaluate(lot)[2], 100)
+    return f"0 {' '.join(double(*quotient) for quotient in row)}"
+
+
+def answer_held(upper, upper_present, lower, lower_present, count, *places):
+    lot = lot_of(upper, upper_present, lower, lower_present, count, places)
+    refused = refusal(LOT, lot)
+    return spaced(refused, *([0] * 3 if refused else evaluate(lot)))
+
+
+def answer_pay(*given):
+    refused = refusal(PAY, *given)
+    return spaced(refused, *([0] * 6 if refused else payment(*given)))
+
+
+def answer_mixture(*given):
+    refused = refusal(MIXTURE, *given)
+    return spaced(refused, *([0] * 6 if refused else mixture_limits(*given)))
+
+
+def answer_read(record):
+    refused = refusal(RECORD, record) or refusal(LOT[1:], unpack(record))
+    if refused:
+        return spaced(refused, *[0] * 15)
+    # written again, an accepted record is the same bytes
+    return f"{spaced(0, *ten_places(unpack(record)))} 0 {len(record)} {record.hex()}"
+
+
+# What the lent memory and a guard on each side of it hold before a write.
+GUARD = 8
+PATTERN = bytes((171 + 37 * place) % 256 for place in range(1024))
+
+
+def answer_write(upper, upper_present, lower, lower_present, count, *places_and_room):
+    *places, room = places_and_room
+    lot = lot_of(upper, upper_present, lower, lower_present, count, places)
+    refused = refusal(LOT, lot) or refusal(ROOM, lot, room)
+    memory = PATTERN[: GUARD + room + GUARD]
+    if refused:
+        return f"{refused} 0 {memory.hex()}"
+    record = pack(lot)
+    memory = memory[:GUARD] + record + memory[GUARD + len(record) :]
+    # what was written is read again as the same lot
+    return f"0 {len(record)} {memory.hex()} {spaced(0, *ten_places(lot))}"
+
+
+ANSWERS = {
+    "lot": answer_lot,
+    "deviation": answer_deviation,
+    "bytes": answer_bytes,
+    "held": answer_held,
+    "pay": answer_pay,
+    "mixture": answer_mixture,
+    "read": answer_read,
+    "write": answer_write,
+}
+
+
+def answer(call):
+    kind, *words = call.split()
+    if kind in ("bytes", "read"):
+        data = bytes.fromhex(words.pop().replace("-", ""))
+        return f"{kind} {ANSWERS[kind](*map(int, words), data)}"
+    return f"{kind} {ANSWERS[kind](*map(int, words))}"
+
+
+if __name__ == "__main__":
+    for call in sys.stdin:
+        print(answer(call))

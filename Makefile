@@ -3,11 +3,13 @@
 include hosts/x86-64.mk
 
 LIBRARY := target/lib/libtulpavice
+HOSTS := hosts
+HOST := target/host
 SOURCES := $(shell find crates -name '*.rt' -o -name '*.antt')
 CFLAGS := -O2 -std=c99 -Wall -Wextra -Werror -Iinclude
 
 # Document 000's worked example, as the notebook shows it.
-run: target/host/notebook
+run: $(HOST)/notebook
 	@$(RUN) $<
 
 # The library for C, and for whoever loads it.
@@ -18,7 +20,7 @@ test:
 	@python3 tests/gate.py
 
 # The library beside plain C on the same work.
-bench: target/host/bench
+bench: target/bench/bench
 	@python3 bench/bench.py $(RUN) $<
 
 # It is proved before it is compiled.
@@ -30,9 +32,24 @@ $(LIBRARY).a: crates.txt $(SOURCES)
 $(LIBRARY).so: $(LIBRARY).a
 	@$(SHARED)
 
-target/host/%.o: hosts/%.c include/tulpavice.h
+$(HOST)/%.o: $(HOSTS)/%.c include/tulpavice.h
 	@mkdir -p $(@D)
 	@$(CC) $(CFLAGS) -c -o $@ $<
 
-target/host/%: target/host/%.o $(LIBRARY).a
-	@$(LINK) $^
+$(HOST)/%: $(HOST)/%.o $(LIBRARY).a
+	@$(LINK) $^ > $@.log 2>&1 || { cat $@.log; exit 1; }
+
+# Plain C has the table's figures from the data file.
+target/bench/table.h: bench/table.py data/table-106-1.tsv
+	@mkdir -p $(@D)
+	@python3 $^ > $@
+
+target/bench/%.o: bench/%.c $(wildcard bench/*.h) include/tulpavice.h target/bench/table.h
+	@$(CC) $(CFLAGS) -Itarget/bench -c -o $@ $<
+
+target/bench/bench: $(patsubst bench/%.c,target/bench/%.o,$(wildcard bench/*.c)) $(LIBRARY).a
+	@$(LINK) $^ > $@.log 2>&1 || { cat $@.log; exit 1; }
+
+# The value of a variable: how a program is run, to whoever runs one.
+print-%:
+	@echo '$($*)'

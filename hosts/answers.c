@@ -348,7 +348,8 @@ static void answer_line(void)
 
 int main(void)
 {
-    setvbuf(stdout, NULL, _IOFBF, 1 << 16);
+    /* a call that does not return is then the first without an answer */
+    setvbuf(stdout, NULL, _IOLBF, 1 << 16);
     while (next_line())
         answer_line();
     return fflush(stdout) == 0 && !ferror(stdout) && !ferror(stdin) ? 0 : 2;

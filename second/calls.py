@@ -304,13 +304,15 @@ def halves(rng, times):
 
 
 def deviations(rng):
-    """The library counts a deviation up from nought, so all but a few are kept small."""
+    """A deviation takes the library the longer the larger it is, so all but a few are kept small."""
     modest = (lot for lot in realistic(rng, 20_000) if max(lot[4]) - min(lot[4]) < 3000)
-    widest = itertools.chain(uniform(rng, 10, RANGE), extreme(rng, 10))
-    for lot in itertools.chain(desk(), small(rng, 15_000), halves(rng, 2_000), modest, widest, refused(rng, 100)):
-        yield lot_line("deviation", *lot)
-        nudged = [*lot[4][:-1], lot[4][-1] + 1] if lot[4] and lot[4][-1] < RANGE else lot[4]
-        yield lot_line("deviation", *lot[:4], nudged)
+    wide = itertools.chain(uniform(rng, 10, RANGE), extreme(rng, 10))
+    for *limits, readings in itertools.chain(
+        desk(), small(rng, 15_000), halves(rng, 2_000), modest, wide, refused(rng, 100)
+    ):
+        yield lot_line("deviation", *limits, readings)
+        if readings and readings[0] < RANGE:
+            yield lot_line("deviation", *limits, [readings[0] + 1, *readings[1:]])
 
 
 def rows(rng):
@@ -395,14 +397,14 @@ def spoiled_record(rng, reasons):
     lot = spoiled(rng, reasons, [rng.randint(-3000, 3000) for _ in range(rng.choice(COUNTS))])
     data = bytearray(record(lot))
     if 6 not in reasons and rng.random() < 0.3:
-        data[3] = rng.choice((1, 2))
-        data[8 if data[3] == 1 else 4 : 12 if data[3] == 1 else 8] = bytes(4)
+        data[3], absent = rng.choice(((1, 8), (2, 4)))
+        data[absent : absent + 4] = bytes(4)
     if 4 in reasons:
         data[12] = rng.choice((0, 1, MOST + 1, 255, data[12] + 1, data[12] - 1))
     if 3 in reasons:
-        absent = [place for place, flag in ((4, 1), (8, 2)) if not data[3] & flag]
-        if absent and rng.random() < 0.5:
-            data[rng.choice(absent) + rng.randrange(4)] = rng.choice((1, 0x80, 0xFF))
+        zeros = [place for place, flag in ((4, 1), (8, 2)) if not data[3] & flag]
+        if zeros and rng.random() < 0.5:
+            data[rng.choice(zeros) + rng.randrange(4)] = rng.choice((1, 0x80, 0xFF))
         else:
             data[3] |= 1 << rng.randrange(2, 8)
     if 2 in reasons:
@@ -453,18 +455,17 @@ def half_composite(rng):
     return vma, voids, (100 - 3 * (vma + voids)) // 4 % 50 + 50 * rng.randrange(HUNDRED // 50)
 
 
-def half_pay(rng):
-    """A price and a quantity whose pay, at the composite of these PWLs, ends in exactly half a cent."""
+def pay_with(rng, part):
+    """PWLs, a price and a quantity whose pay is so many 100,000ths of a cent more than a whole one."""
     while True:
         percents = [rng.randint(0, HUNDRED) for _ in range(3)]
-        composite = papers.payment(*percents, 0, 0)[0]
         quantity = rng.randrange(1, MOST_QUANTITY)
-        factor = composite * quantity
+        factor = papers.payment(*percents, 0, 0)[0] * quantity
         common = math.gcd(factor, 100_000)
-        if 50_000 % common == 0:
+        if part % common == 0:
             modulus = 100_000 // common
-            price = 50_000 // common * pow(factor // common, -1, modulus) % modulus
-            return *percents, price + modulus * rng.randrange((MOST_PRICE - price) // modulus), quantity
+            price = part // common * pow(factor // common, -1, modulus) % modulus
+            return *percents, rng.randrange(price, MOST_PRICE, modulus), quantity
 
 
 def pays(rng):
@@ -482,9 +483,8 @@ def pays(rng):
             yield line("pay", vma - 1, voids, density + 1, price, quantity)
             yield line("pay", vma + 1, voids, density - 1, price, quantity)
     for _ in range(20_000):
-        *percents, price, quantity = half_pay(rng)
-        for other in price - 1, price, price + 1:
-            yield line("pay", *percents, other, quantity)
+        for part in 49_999, 50_000, 50_001:
+            yield line("pay", *pay_with(rng, part))
     for _ in range(65_000):
         percents = [rng.choice((rng.randint(0, HUNDRED), rng.randint(4_900, 5_100))) for _ in range(3)]
         price = rng.choice((rng.randrange(3_000, 15_000), rng.randint(0, MOST_PRICE)))

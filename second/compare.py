@@ -1,7 +1,8 @@
-"""Runs the library beside the second program: python3 second/compare.py [--seed N] COMMAND...
+"""Runs the library beside the second program: python3 second/compare.py [--seed N] [--stop] COMMAND...
 
 COMMAND answers calls over the library, as hosts/answers.c does. It is fed every call of second/calls.py, and each
 answer is held against that of second/papers.py. Succeeds if none differs and there were enough calls of each kind.
+With --stop it ends at the first that differs.
 """
 import argparse
 import collections
@@ -34,10 +35,12 @@ def show(call, library, second):
     print(f"call    {cut(call)}\nlibrary {cut(library)}\nsecond  {cut(second)}")
 
 
-def compare(asked, answers):
+def compare(asked, answers, stop):
     """How many calls of each kind were compared and how many differ, and whether the answers stopped short."""
     compared, differ = collections.Counter(), collections.Counter()
     for call in asked:
+        if stop and differ:
+            break
         library = answers.readline()
         if not library.endswith("\n"):
             print(f"the library's answers stop at call {compared.total() + 1:,}: {cut(call.rstrip())}")
@@ -55,6 +58,7 @@ def compare(asked, answers):
 def main():
     parser = argparse.ArgumentParser()
     parser.add_argument("--seed", type=int, default=106)
+    parser.add_argument("--stop", action="store_true")
     parser.add_argument("command", nargs=argparse.REMAINDER)
     given = parser.parse_args()
     if not given.command:
@@ -65,7 +69,10 @@ def main():
         file.flush()
         with open(file.name) as fed, open(file.name) as asked:
             with subprocess.Popen(given.command, stdin=fed, stdout=subprocess.PIPE, text=True) as host:
-                compared, differ, failed = compare(asked, host.stdout)
+                compared, differ, failed = compare(asked, host.stdout, given.stop)
+                if given.stop and differ:
+                    host.kill()
+                    return 1
                 if host.stdout.readline():
                     print("the library answers more than it was asked")
                     failed = True

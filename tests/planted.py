@@ -23,12 +23,28 @@ def edits(root):
     return sorted((root / "must-fail").glob("*.edit"))
 
 
-def copy(root, to):
-    """Copies the crates and what is proved of them, so that only what an edit reaches is proved again."""
+def reached(root, crate):
+    """A crate and all that it depends on, of those that crates.txt lists."""
+    listed = dict(re.findall(r"^(\w+):(.*)", (root / "crates.txt").read_text("utf-8"), re.M))
+    found, todo = set(), [crate]
+    while todo:
+        name = todo.pop()
+        if name in listed and name not in found:
+            found.add(name)
+            todo += listed[name].split()
+    return found
+
+
+def copy(root, to, crate):
+    """Copies what a crate's check reads, with what is proved of it, so that only what an edit reaches is proved again."""
     shutil.copy(root / "crates.txt", to)
-    for part in "crates", "target/rlib", "target/stamp":
-        if (root / part).exists():
-            shutil.copytree(root / part, to / part, symlinks=True)
+    for name in reached(root, crate):
+        for part in f"crates/{name}", f"target/rlib/{name}.rlib":
+            if (root / part).exists():
+                shutil.copytree(root / part, to / part, symlinks=True)
+        if (root / "target/stamp" / name).exists():
+            (to / "target/stamp").mkdir(parents=True, exist_ok=True)
+            shutil.copy(root / "target/stamp" / name, to / "target/stamp")
 
 
 def check(crate, where):
@@ -60,11 +76,11 @@ def judged(crate, laws, places, where):
 
 
 @contextmanager
-def edited_copy(root, changes):
-    """A copy with the changes made, and their places; ValueError where one cannot be made."""
+def edited_copy(root, changes, crate):
+    """A copy for a crate's check with the changes made, and their places; ValueError where one cannot be made."""
     with tempfile.TemporaryDirectory() as folder:
         where = Path(folder).resolve()
-        copy(root, where)
+        copy(root, where, crate)
         texts, places = edited(where, changes)
         for path, text in texts.items():
             (where / path).write_text(text, "utf-8")
@@ -79,7 +95,7 @@ def plant(root, file):
     if not all(re.match(r"crates/\w+/(?:src|specs)/", path) for path, _, _ in changes):
         return "BAD EDIT: it may change only src/ and specs/ of a crate"
     try:
-        with edited_copy(root, changes) as (where, places):
+        with edited_copy(root, changes, words["check"]) as (where, places):
             return judged(words["check"], words["refused"].split(), places, where)
     except ValueError as error:
         return f"BAD EDIT: {error}"

@@ -19,7 +19,7 @@ def tried(file):
     comment, words, changes = read_edit(file)
     if not (comment and words.get("check") and words.get("refused")):
         raise ValueError("it wants a comment that says what it mixes, a line `check: CRATE` and a line `refused: WORDS`")
-    with edited_copy(ROOT, changes) as (where, (place,)):
+    with edited_copy(ROOT, changes, words["check"]) as (where, (place,)):
         status, said, log = check(words["check"], where)
     return words, status, said, log, f"{where}/{place}"
 

@@ -10,7 +10,8 @@ import tempfile
 import tty
 import unittest
 
-ROOT = pathlib.Path(__file__).resolve().parent.parent
+from building import ROOT, make, running
+
 PAPERS = sorted((ROOT.parent / "shared").glob("000_*.txt"))
 PROGRAM = "target/host/notebook"
 ANSWER = re.compile(r"line +(\d+) +mean +(-?\d+\.\d{3}) +deviation +(\d+\.\d{3}) +PWL +(\d+\.\d\d)")
@@ -27,18 +28,10 @@ LIMITS = {"VMA": "12.30 16.00", "Voids": "2.65 5.35", "Density": "91.50 97.00"}
 ROWS = {"VMA": "12.890 0.325 97.51", "Voids": "4.160 0.825 91.28", "Density": "92.790 0.910 92.56"}
 
 
-def make(*words):
-    ran = subprocess.run(["make", "--no-print-directory", "-s", *words], cwd=ROOT, stdin=subprocess.DEVNULL,
-                         capture_output=True, text=True)
-    if ran.returncode:
-        raise RuntimeError(f"make {' '.join(words)}: {ran.stdout}{ran.stderr}")
-    return ran.stdout
-
-
 def setUpModule():
     global COMMAND
-    make(PROGRAM)
-    COMMAND = [*make("print-RUN").split(), str(ROOT / PROGRAM)]
+    *words, program = running(PROGRAM)
+    COMMAND = [*words, str(ROOT / program)]
 
 
 def notebook(*words, **more):

@@ -1,23 +1,29 @@
--- What a host gives and is given, by computation: a limit and its presence, a lot's places in their order, and the row of D5.
+-- What a host gives and is given, by computation: a limit and its presence, a lot's places in their order, each answer in plain numbers,
+-- and the row with its doubles.
 use mathlib.Core.Path.{_≡_, refl, ap}
 use mathlib.Core.List.{List, [], _∷_}
 use Prim.Native.Nat.{ℕ, suc}
 use lib.Dec.{eqb·suc-zero}
 use lib.IntN.{ℤ, pos}
+use lib.ListN.{replicate}
+use lib.Ieee.{binary64, ofInt, div, ofBits}
 use Rattle.rules.specs.declared.Limit.the-variants.{Absent, At}
 use Rattle.rules.specs.declared.Verdict.the-variants.{Accepted, Rejected}
 use Rattle.rules.specs.declared.host.HostLot.{HostLot}
-use Rattle.rules.specs.declared.host.HostRead.{HostRead}
-use Rattle.rules.specs.Units.{thousandths}
+use Rattle.rules.specs.declared.host.HostPair.{HostPair}
+use Rattle.rules.specs.Units.{thousandths, hundredths, composite-of, cents}
 use Rattle.rules.specs.Said.{Said, refused, answers, ruled}
 use Rattle.rules.specs.Lot.{Lot, lot-of, lot-in}
-use Rattle.rules.specs.Percent.{sum}
-use Rattle.rules.specs.Record.{in-fours, spell}
+use Rattle.rules.specs.Table.{rows, table-106-1}
+use Rattle.rules.specs.Percent.{sum, squares, spread, upper-distance, lower-distance, index-squared, midpoint-squared, admits, largest, nearest, side, upper-side, lower-side}
+use Rattle.rules.specs.Deviation.{deviation, first-from}
+use Rattle.rules.specs.Mixture.{density-pairs, mixture-limits}
+use Rattle.rules.specs.Record.{spelled, spell, fours, in-fours}
 use Rattle.rules.specs.Refusals.{any-out}
 use Rattle.rules.specs.Meets.{row-meets}
-use Rattle.rules.specs.Notebook.{lent-limit, lent-lot, row-of}
-use Rattle.rules.specs.Entries.{read-says, read-leaves, beside, held, row-says}
-use Rattle.rules.specs.Host.{held-lot, host-lot, host-read, verdict-number}
+use Rattle.rules.specs.Notebook.{lent-limit, lent-lot, row-of, refusal-asked, mean-asked, deviation-asked, pwl-asked}
+use Rattle.rules.specs.Entries.{percentages-of, read-says, read-leaves, beside, held, row-says}
+use Rattle.rules.specs.Host.{host-mean, host-deviation, host-percentages, host-payment, host-mixture-limits, held-lot, host-lot, host-read, host-written}
 use Rattle.laws.specs.Desk.{at}
 
 -- Presence 0 is absent and its number unread; any other is present.
@@ -80,6 +86,78 @@ pub refused-read-is-nothing : (bs : List ℕ) (k : ℕ) → read-says bs ≡ ref
 unfolding host-lot held
 refused-read-is-nothing bs k e = ap (λ (said : Said Lot). host-read (beside said)) e
 
--- Document 02's numbers of a verdict.
-pub verdicts-are-numbered : (verdict-number Accepted ≡ 0) × (verdict-number Rejected ≡ 1)
-verdicts-are-numbered = (refl, refl)
+-- Of every other answer: one that is refused, and document 000's example or D9.
+pub mean-is-given :
+    (host-mean (refused 4) ≡ record { refusal = 4; total = pos 0; count = 0 }) ×
+    (host-mean (answers (record { total = thousandths (pos 41600); count = 10 })) ≡ record { refusal = 0; total = pos 41600; count = 10 })
+mean-is-given = (refl, refl)
+
+pub deviation-is-given :
+    (host-deviation (refused 5) ≡ record { refusal = 5; deviation = pos 0 }) ×
+    (host-deviation (answers (thousandths (pos 825))) ≡ record { refusal = 0; deviation = pos 825 })
+deviation-is-given = (refl, refl)
+
+pub percentages-are-given :
+    (host-percentages (refused 6) ≡ record { refusal = 6; upper = pos 0; lower = pos 0; pwl = pos 0 }) ×
+    (host-percentages (answers (record { upper = hundredths (pos 9337); lower = hundredths (pos 9791); pwl = hundredths (pos 9128) })) ≡
+    record { refusal = 0; upper = pos 9337; lower = pos 9791; pwl = pos 9128 })
+percentages-are-given = (refl, refl)
+
+-- A verdict's numbers are document 02's: 0 accepted, 1 rejected.
+pub payment-is-given :
+    (host-payment (refused 9) ≡ record { refusal = 9; composite = pos 0; vma = 0; voids = 0; density = 0; lot = 0; pay = pos 0 }) ×
+    (host-payment (answers (record { composite = composite-of (pos 998); vma = Accepted; voids = Rejected; density = Accepted; lot = Rejected; pay = cents (pos 63872000) })) ≡
+    record { refusal = 0; composite = pos 998; vma = 0; voids = 1; density = 0; lot = 1; pay = pos 63872000 })
+payment-is-given = (refl, refl)
+
+abbrev pair : ℕ → ℕ → HostPair
+pair lower upper = record { lower = pos lower; upper = pos upper }
+
+pub mixture-limits-are-given :
+    (host-mixture-limits (refused 5) ≡ record { refusal = 5; vma = pair 0 0; voids = pair 0 0; density = pair 0 0 }) ×
+    (host-mixture-limits (answers (mixture-limits (pos 3) (pos 13000) (pos 4000))) ≡
+    record { refusal = 0; vma = pair 12300 16000; voids = pair 2650 5350; density = pair 91500 97000 })
+unfolding mixture-limits density-pairs
+mixture-limits-are-given = (refl, refl)
+
+pub written-is-given : (host-written (refused 8) ≡ record { refusal = 8; size = 0 }) × (host-written (answers 29) ≡ record { refusal = 0; size = 29 })
+written-is-given = (refl, refl)
+
+-- ---- the row
+
+-- Document 01's voids lot, of which T is 41,600, s 825 and PWL 9,128: as doubles 4.16, 0.825 and 91.28, by their bits.
+pub voids-row :
+    row-of (pos 41600) 10 (pos 825) (pos 9128) ≡
+    record {
+      mean = ofBits binary64 4616369762039853220;
+      deviation = ofBits binary64 4605606158930437734;
+      pwl = ofBits binary64 4636123675905407058;
+    }
+unfolding row-of div ofInt ofBits
+voids-row = refl
+
+-- Each double of a refused lot is 0.
+pub refused-row-is-zero :
+    (mean-asked (refused 4) ≡ ofBits binary64 0) × (deviation-asked (refused 4) ≡ ofBits binary64 0) × (pwl-asked (refused 4) ≡ ofBits binary64 0)
+unfolding ofBits
+refused-row-is-zero = (refl, refl, refl)
+
+pub refusal-is-asked : (refusal-asked {A = ℕ} (refused 7) ≡ 7) × (refusal-asked {A = ℕ} (answers 7) ≡ 0)
+refusal-is-asked = (refl, refl)
+
+-- D9 as bytes: of 0 and 1, with an upper limit of 1.
+pub d9-row : row-says (at 1) Absent (in-fours (pos 0 ∷ pos 1 ∷ [])) ≡ answers (row-of (pos 1) 2 (pos 1) (pos 7249))
+unfolding row-says row-meets lent-lot ruled in-fours spell spelled fours any-out sum squares spread upper-distance lower-distance index-squared midpoint-squared admits largest nearest side upper-side lower-side rows table-106-1 percentages-of deviation first-from
+d9-row = refl
+
+-- A size that is not 4n for an allowed n is refusal 4, before any other.
+pub sizes-are-refused :
+    (row-says Absent Absent [] ≡ refused 4) ×
+    (row-says Absent Absent (replicate 4 0) ≡ refused 4) ×
+    (row-says Absent Absent (replicate 7 0) ≡ refused 4) ×
+    (row-says Absent Absent (replicate 9 0) ≡ refused 4) ×
+    (row-says Absent Absent (replicate 44 0) ≡ refused 4) ×
+    (row-says Absent Absent (replicate 8 0) ≡ refused 6) ×
+    (row-says Absent Absent (replicate 40 0) ≡ refused 6)
+unfolding row-says row-meets lent-lot ruled fours spelled any-out
+sizes-are-refused = (refl, refl, refl, refl, refl, refl, refl)

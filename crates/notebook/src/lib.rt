@@ -1,5 +1,5 @@
 // Every entry, for a host in C: include/tulpavice.h declares them. Thin: what is worked out is worked out below.
-mod row;
+pub mod row;
 
 use host::held_lot;
 use host::limit;
@@ -45,11 +45,9 @@ pub extern "C" fn tulpavice_evaluate(
 ) -> HostPercentages
     ensures { λ r. ⌜ r ≡ host-percentages (evaluation-says (lot-of (lent-limit upper «upper_present») (lent-limit lower «lower_present») (now (readings .entry)))) ⌝ }
 {
-    host::percentages(quality::evaluate(
-        readings,
-        limit(upper, upper_present),
-        limit(lower, lower_present),
-    ))
+    let above = limit(upper, upper_present);
+    let below = limit(lower, lower_present);
+    host::percentages(quality::evaluate(readings, above, below))
 }
 
 #[no_mangle]
@@ -109,11 +107,9 @@ pub extern "C" fn tulpavice_row_refusal(
 ) -> u32
     ensures { λ r. ⌜ r ≡ refusal-asked (row-says (lent-limit upper «upper_present») (lent-limit lower «lower_present») (now (readings .entry))) ⌝ }
 {
-    row::refusal(
-        readings,
-        limit(upper, upper_present),
-        limit(lower, lower_present),
-    )
+    let above = limit(upper, upper_present);
+    let below = limit(lower, lower_present);
+    row::refusal(readings, above, below)
 }
 
 #[no_mangle]
@@ -126,11 +122,9 @@ pub extern "C" fn tulpavice_row_mean(
 ) -> f64
     ensures { λ r. ⌜ r ≡ mean-asked (row-says (lent-limit upper «upper_present») (lent-limit lower «lower_present») (now (readings .entry))) ⌝ }
 {
-    row::mean(
-        readings,
-        limit(upper, upper_present),
-        limit(lower, lower_present),
-    )
+    let above = limit(upper, upper_present);
+    let below = limit(lower, lower_present);
+    row::mean(readings, above, below)
 }
 
 #[no_mangle]
@@ -143,11 +137,9 @@ pub extern "C" fn tulpavice_row_deviation(
 ) -> f64
     ensures { λ r. ⌜ r ≡ deviation-asked (row-says (lent-limit upper «upper_present») (lent-limit lower «lower_present») (now (readings .entry))) ⌝ }
 {
-    row::deviation(
-        readings,
-        limit(upper, upper_present),
-        limit(lower, lower_present),
-    )
+    let above = limit(upper, upper_present);
+    let below = limit(lower, lower_present);
+    row::deviation(readings, above, below)
 }
 
 #[no_mangle]
@@ -160,9 +152,7 @@ pub extern "C" fn tulpavice_row_pwl(
 ) -> f64
     ensures { λ r. ⌜ r ≡ pwl-asked (row-says (lent-limit upper «upper_present») (lent-limit lower «lower_present») (now (readings .entry))) ⌝ }
 {
-    row::pwl(
-        readings,
-        limit(upper, upper_present),
-        limit(lower, lower_present),
-    )
+    let above = limit(upper, upper_present);
+    let below = limit(lower, lower_present);
+    row::pwl(readings, above, below)
 }

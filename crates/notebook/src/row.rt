@@ -30,6 +30,9 @@ ghost use Rattle.rules.specs.Entries.{percentages-of, row-says};
 ghost use Rattle.laws.specs.Bounds.{Bounded};
 ghost use Rattle.laws.specs.Lent.{with-totals};
 
+// Each double of a refused lot.
+const REFUSED: f64 = 0.0;
+
 // What is said of a lot that is lent, and its totals where it is not refused.
 struct LentLot {
     said: Outcome,
@@ -130,7 +133,7 @@ pub fn mean(bytes: &[u8], upper: Limit, lower: Limit) -> f64
     let lot = lent(bytes, upper, lower);
     let said = lot.said;
     match said {
-        Outcome::Refused(_) => 0.0,
+        Outcome::Refused(_) => REFUSED,
         Outcome::Answers => mean_of(lot.totals),
     }
 }
@@ -141,7 +144,7 @@ pub fn deviation(bytes: &[u8], upper: Limit, lower: Limit) -> f64
     let lot = lent(bytes, upper, lower);
     let said = lot.said;
     match said {
-        Outcome::Refused(_) => 0.0,
+        Outcome::Refused(_) => REFUSED,
         Outcome::Answers => deviation_of(lot.totals),
     }
 }
@@ -152,7 +155,7 @@ pub fn pwl(bytes: &[u8], upper: Limit, lower: Limit) -> f64
     let lot = lent(bytes, upper, lower);
     let said = lot.said;
     match said {
-        Outcome::Refused(_) => 0.0,
+        Outcome::Refused(_) => REFUSED,
         Outcome::Answers => pwl_of(lot.totals, upper, lower),
     }
 }

@@ -1,8 +1,8 @@
 -- Document 01, "The notebook", for every entry: what a host is given in plain numbers. The refusal's number stands first, 0 for none;
 -- of what is refused every other number is 0.
-use mathlib.Core.List.{List, [], _∷_, map}
+use mathlib.Core.List.{[], _∷_, map}
 use Prim.Native.Nat.{ℕ}
-use lib.IntN.{ℤ, pos}
+use lib.IntN.{pos}
 use lib.ListN.{getD}
 use Rattle.rules.specs.declared.Thousandths.{Thousandths}
 use Rattle.rules.specs.declared.Limit.{Limit}

@@ -1,7 +1,7 @@
 -- What is said, in plain numbers.
 use mathlib.Core.Path.{ap, _∙_}
-use Rattle.rules.specs.Host.{host-deviation}
 use borrow.Author.Needs.{needs}
+use Rattle.rules.specs.Host.{host-deviation}
 use Rattle.notebook.proofs.tulpavice_deviation.Statement.{statement}
 use Rattle.notebook.proofs.tulpavice_deviation.Tie as tie
 

@@ -1,11 +1,11 @@
 -- The two limits are those of their numbers and presences; what is said then, in plain numbers.
 use mathlib.Core.Path.{_≡_, ap, _∙_}
+use borrow.Author.Needs.{needs}
 use mir.Facts.{toZ-ofZ}
 use Rattle.rules.specs.Lot.{lot-of}
 use Rattle.rules.specs.Notebook.{lent-limit}
 use Rattle.rules.specs.Entries.{evaluation-says}
 use Rattle.rules.specs.Host.{host-percentages}
-use borrow.Author.Needs.{needs}
 use Rattle.notebook.proofs.tulpavice_evaluate.Statement.{statement}
 use Rattle.notebook.proofs.tulpavice_evaluate.Tie as tie
 

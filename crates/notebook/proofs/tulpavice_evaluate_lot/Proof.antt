@@ -1,10 +1,10 @@
 -- The lot in memory is that of the host's numbers; what is said of it, in plain numbers.
 use mathlib.Core.Path.{ap, _∙_}
+use borrow.Author.Needs.{needs}
 use Rattle.rules.specs.declared.HeldLot.{HeldLot}
 use Rattle.rules.specs.Lot.{lot-in}
 use Rattle.rules.specs.Entries.{evaluation-says}
 use Rattle.rules.specs.Host.{host-percentages}
-use borrow.Author.Needs.{needs}
 use Rattle.notebook.proofs.tulpavice_evaluate_lot.Statement.{statement}
 use Rattle.notebook.proofs.tulpavice_evaluate_lot.Tie as tie
 

@@ -1,7 +1,7 @@
 -- What is said, in plain numbers.
 use mathlib.Core.Path.{ap, _∙_}
-use Rattle.rules.specs.Host.{host-mean}
 use borrow.Author.Needs.{needs}
+use Rattle.rules.specs.Host.{host-mean}
 use Rattle.notebook.proofs.tulpavice_mean.Statement.{statement}
 use Rattle.notebook.proofs.tulpavice_mean.Tie as tie
 

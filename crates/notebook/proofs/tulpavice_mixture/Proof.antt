@@ -1,8 +1,8 @@
 -- What is said of the numbers, which fit, in plain numbers.
 use mathlib.Core.Path.{ap, _∙_}
+use borrow.Author.Needs.{needs}
 use mir.Facts.{toZ-ofZ}
 use Rattle.rules.specs.Host.{host-mixture-limits}
-use borrow.Author.Needs.{needs}
 use Rattle.notebook.proofs.tulpavice_mixture.Statement.{statement}
 use Rattle.notebook.proofs.tulpavice_mixture.Tie as tie
 

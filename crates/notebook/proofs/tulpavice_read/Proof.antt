@@ -1,7 +1,7 @@
 -- What is said and the lot beside it, in plain numbers.
 use mathlib.Core.Path.{ap, _∙_}
-use Rattle.rules.specs.Host.{host-read}
 use borrow.Author.Needs.{needs}
+use Rattle.rules.specs.Host.{host-read}
 use Rattle.notebook.proofs.tulpavice_read.Statement.{statement}
 use Rattle.notebook.proofs.tulpavice_read.Tie as tie
 

@@ -1,9 +1,9 @@
 -- The two limits are those of their numbers and presences.
 use mathlib.Core.Path.{_≡_, _∙_}
+use borrow.Author.Needs.{needs}
 use mir.Facts.{toZ-ofZ}
 use Rattle.rules.specs.Notebook.{lent-limit, refusal-asked}
 use Rattle.rules.specs.Entries.{row-says}
-use borrow.Author.Needs.{needs}
 use Rattle.notebook.proofs.tulpavice_row_refusal.Statement.{statement}
 use Rattle.notebook.proofs.tulpavice_row_refusal.Tie as tie
 

@@ -1,10 +1,10 @@
 -- The lot in memory is that of the host's numbers; what is said of it, in plain numbers, and the lent slice is what the writer leaves.
 use mathlib.Core.Path.{ap, _∙_}
+use borrow.Author.Needs.{needs}
 use Rattle.rules.specs.declared.HeldLot.{HeldLot}
 use Rattle.rules.specs.Lot.{lot-in}
 use Rattle.rules.specs.Entries.{write-says, after-write}
 use Rattle.rules.specs.Host.{host-written}
-use borrow.Author.Needs.{needs}
 use Rattle.notebook.proofs.tulpavice_write.Statement.{statement}
 use Rattle.notebook.proofs.tulpavice_write.Tie as tie
 

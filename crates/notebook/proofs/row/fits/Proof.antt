@@ -1,7 +1,8 @@
-use borrow.Author.Needs.{needs}
+-- The two tests are the definition's.
 use mathlib.Core.Path.{ap}
 use mathlib.Core.Bool.{_&&_}
 use Prim.Native.Nat.{_%_}
+use borrow.Author.Needs.{needs}
 use lib.Dec.{eqb}
 use Rattle.notebook.proofs.row.fits.Statement.{statement}
 use Rattle.notebook.proofs.row.fits.Tie as tie

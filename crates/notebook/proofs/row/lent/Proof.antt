@@ -1,9 +1,10 @@
-use borrow.Author.Needs.{needs}
+-- The numbers that bytes of a fitting size spell are lent; another size is refusal 4.
 use mathlib.Core.Path.{_≡_, sym, ap, _∙_}
 use mathlib.Core.Bool.{true, not}
 use mathlib.Core.List.{List}
 use Prim.Native.Nat.{ℕ, _/_, _-_}
 use native.Mathlib.Omega.{arith}
+use borrow.Author.Needs.{needs}
 use lib.IntN.{ℤ, pos}
 use lib.ListN.{length, take, replicate}
 use lib.Seq.{length-take-le, take-at}

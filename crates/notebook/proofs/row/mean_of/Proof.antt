@@ -1,6 +1,7 @@
-use borrow.Author.Needs.{needs}
+-- T and 1000·n fit, so that their conversions are exact.
 use mathlib.Core.Path.{refl}
 use native.Mathlib.Omega.{arith}
+use borrow.Author.Needs.{needs}
 use mir.Syntax.{w32, w64}
 use mir.Val.{SFits}
 use mir.Facts.{toZ-ofZ}

@@ -1,7 +1,8 @@
-use borrow.Author.Needs.{needs}
+-- PWL is a small number, so that its conversion is exact.
 use mathlib.Core.Path.{ap}
 use Prim.Native.Nat.{_≤_}
 use native.Mathlib.Omega.{arith}
+use borrow.Author.Needs.{needs}
 use lib.IntN.{natAbs}
 use mir.Syntax.{w32, w64}
 use mir.Val.{SFits}

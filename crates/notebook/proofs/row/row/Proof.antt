@@ -1,5 +1,6 @@
-use borrow.Author.Needs.{needs}
+-- A refused lot has no row; else each double is that of the totals.
 use mathlib.Core.Path.{sym, ap, _∙_}
+use borrow.Author.Needs.{needs}
 use Rattle.rules.specs.declared.Row.{Row}
 use Rattle.rules.specs.Said.{Said, answers}
 use Rattle.rules.specs.Notebook.{row-of}

@@ -1,8 +1,8 @@
-use borrow.Author.Needs.{needs}
+-- A refusal is passed on; else the totals are those of readings that are not refused.
 use mathlib.Core.Path.{sym, ap, _∙_}
+use borrow.Author.Needs.{needs}
 use Rattle.rules.specs.declared.Totals.{Totals}
 use Rattle.rules.specs.Said.{Said, answers}
-use Rattle.rules.specs.Lot.{lot-of}
 use Rattle.laws.proofs.Ruled.{nothing-refused, outcome-answers, outcome-refused}
 use Rattle.laws.proofs.Accepted.{lot-accepted, lent-readings}
 use Rattle.notebook.proofs.row.totalled.Statement.{statement}

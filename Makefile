@@ -1,4 +1,7 @@
 .PHONY: run lib test bench
+.DELETE_ON_ERROR:
+# objects stay, and no rule says that it removes one
+.SECONDARY:
 
 include hosts/x86-64.mk
 

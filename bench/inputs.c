@@ -1,5 +1,5 @@
 /* Lots as they come from a job: three characteristics near document 000's limits, mostly ten readings, and one in
-   sixteen of each input such that it is refused. */
+   sixteen of each input spoiled, mostly so that it is refused. */
 #include "inputs.h"
 
 #include <stdbool.h>

@@ -59,7 +59,8 @@ CALL(write, struct tulpavice_written)
 {
     return who->write(inputs->lots[i], out, inputs->rooms[i]);
 }
-LOOP(write, struct tulpavice_written, a.refusal + a.size + out[a.size / 2])
+/* a refused write leaves what the one before it wrote */
+LOOP(write, struct tulpavice_written, a.refusal + a.size + (a.refusal ? 0 : out[a.size / 2]))
 
 /* What lies past a record, or under a refused one, is to stay: the whole memory is part of the answer. */
 static size_t answer_write(const struct calculator *who, const struct inputs *inputs, size_t i, int64_t *taken)

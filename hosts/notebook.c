@@ -107,7 +107,7 @@ static void show_payment(const struct tulpavice_payment *paid)
     print_grouped(paid->pay / 100);
     printf(".%02d for ", (int)(paid->pay % 100));
     print_grouped(HUNDREDTHS_OF_A_TON / 100);
-    printf(" tons at $%d.%02d a ton\n", CENTS_A_TON / 100, CENTS_A_TON % 100);
+    printf(" tons at $%d.%02d a ton (document 01's)\n", CENTS_A_TON / 100, CENTS_A_TON % 100);
 }
 
 /* Pay takes each PWL in whole hundredths, from direct evaluation: no double is turned back into a whole number. None of
@@ -132,7 +132,8 @@ static void show_example(void)
     show_readings(lots);
     show_rows(lots, rejected);
     show_payment(&paid);
-    printf("\nBy its own table, of whole percents, document 000 has 98, 92, 93 and 1.001.\n");
+    printf("\nBy its own table, of whole percents, document 000 has 98, 92, 93 and 1.001,\n"
+           "and pays $350,350 for 10,000 tons at $35.00.\n");
 }
 
 /* ---- The lots of a file, read a character at a time: no line is too long to be held, since none is held ---- */
@@ -238,8 +239,10 @@ static enum status answer_line(struct input *in)
 {
     struct lot lot = {0};
     unsigned long field;
+    struct row row = {0, 0, 0, 0};
     const char *wrong = read_lot(in, &lot, &field);
-    struct row row = row_of(&lot);
+    if (!wrong)
+        row = row_of(&lot);
     if (ferror(in->file)) /* a line cut short is not the lot that was meant */
         return TROUBLE;
     fflush(stdout); /* lines keep their order where both streams go to one place */

@@ -1,7 +1,6 @@
 # How a C program is built over the library and run. The kit compiles for x86-64 alone: on such a machine gcc links and the
 # program runs as it is; on another the kit's own compiler, linker and emulator stand in. To choose otherwise, give make
 # CC, LINK, SHARED and RUN.
-KIT := $(or $(RATTLE_HOME),$(shell dirname "$$(dirname "$$(readlink -f "$$(command -v rt)")")"))
 MACHINE := $(shell uname -m)
 
 ifeq ($(MACHINE),x86_64)
@@ -10,9 +9,10 @@ LINK = gcc -o $@
 SHARED = gcc -shared -o $@ -Wl,--whole-archive $< -Wl,--no-whole-archive
 RUN :=
 else
+KIT := $(or $(RATTLE_HOME),$(shell dirname "$$(dirname "$$(readlink -f "$$(command -v rt)")")"))
 HERE := $(KIT)/on/$(MACHINE)
 TOOLS := $(HERE)/toolchain
-# the headers of this machine's C library and compiler say nothing of its processor that a program here asks for
+# This machine's own headers serve: what a program here uses of them is the same on both processors.
 CC := $(TOOLS)/bin/clang --target=x86_64-linux-gnu -fPIC -nostdinc -isystem $(shell gcc -print-file-name=include) \
       -isystem /usr/include -isystem /usr/include/$(shell gcc -dumpmachine)
 LINK = $(HERE)/bin/rattle-link --target x86_64-unknown-linux-gnu --toolchain $(TOOLS) -o $@

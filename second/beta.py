@@ -7,7 +7,7 @@ and left out.
 """
 import math
 
-from papers import LAST, TABLE
+from papers import TABLE
 
 LEAST = 0.01  # in percent: the table's last printed place
 
@@ -32,21 +32,22 @@ def percentage(count, index, under=1):
     return 50 + 50 * cosines(count - 3, sine) / cosines(count - 3, 1.0)
 
 
-def off(under=1):
-    """The entries that differ from the formula by more than that, with what it gives."""
+def held(under=1):
+    """Every entry, with what the formula gives and how far off it is."""
     for count in range(3, 11):
         for row, entry in enumerate(TABLE[count]):
             formula = percentage(count, row / 20, under)
-            if abs(float(entry) - formula) > LEAST:
-                yield count, row, entry, formula
+            yield count, row, entry, formula, abs(float(entry) - formula)
 
 
 def main():
-    differing = list(off())
-    for count, row, entry, formula in differing:
+    every = list(held())
+    differing = [entry for entry in every if entry[-1] > LEAST]
+    for count, row, entry, formula, _ in differing:
         print(f"n={count} index {row / 20:.2f}: the table has {entry}, the formula gives {formula:.4f}")
-    print(f"{len(differing)} of {8 * (LAST + 1)} entries for n=3 to 10 are more than {LEAST} off")
-    print(f"with the half and the 2 both, as document 003 is printed, {len(list(off(2)))} would be")
+    print(f"{len(differing)} of {len(every)} entries for n=3 to 10 are more than {LEAST} off")
+    print(f"the others are off by {max(entry[-1] for entry in every if entry[-1] <= LEAST):.4f} at the most")
+    print(f"with the half and the 2 both, as document 003 is printed, {sum(entry[-1] > LEAST for entry in held(2))} would be")
 
 
 if __name__ == "__main__":

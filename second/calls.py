@@ -1,27 +1,22 @@
 """The calls that the library and the second program both answer, a text line each (hosts/answers.c says how they read).
 
-The same seed gives the same lines. A lot here is a tuple: the upper limit, its presence, the lower limit, its presence,
-and the list of readings.
+The same seed gives the same lines.
 """
 import itertools
 import math
 import random
 
 import papers
-from papers import HEAD, LAST, MOST, RANGE, lot_of, pack
+from lots import (
+    closest_misses, COUNTS, desk, equal, extreme, hairs, halves, INT32, limited, near_ties, realistic,
+    refused, small, spoiled, subsets, ties, uniform, UNREAD,
+)
+from papers import HEAD, MOST, RANGE, lot_of, pack
 
-INT32 = -(2**31), 2**31 - 1
 INT64 = -(2**63), 2**63 - 1
-COUNTS = range(2, MOST + 1)
-ROWS = range(1, LAST + 1)
 
-# Presences, some of which a narrower number would lose; numbers that stand where none is read; numbers out of range.
-PRESENT = 1, 1, 1, 1, 2, 0x100, 0x1_0000, 0x8000_0000, 0xFFFF_FFFF
-UNREAD = 0, 0, 1, -1, RANGE, RANGE + 1, -RANGE - 1, *INT32
-OUTSIDE = RANGE + 1, -RANGE - 1, RANGE + 2, 2**24, -(2**24), *INT32
-
-# The bounds of readings and limits, and their neighbours.
-EDGES = -RANGE, -RANGE + 1, -1, 0, 1, RANGE - 1, RANGE
+# Counts that no lot has, though its places do; a narrower number would take some of them for four.
+UNHELD = 0, 1, MOST + 1, MOST + 2, 255, 256 + 4, 2**16 + 4, 2**31 + 4, 2**32 - 1
 
 
 def line(kind, *words):
@@ -32,245 +27,7 @@ def lot_line(kind, upper, upper_present, lower, lower_present, readings):
     return line(kind, upper, upper_present, lower, lower_present, len(readings), *readings)
 
 
-# Lots that are accepted.
-
-
-def limited(rng, lower, upper, readings):
-    """The lot with both limits, or with one of them."""
-    draw = rng.random()
-    if draw < 0.6:
-        return upper, rng.choice(PRESENT), lower, rng.choice(PRESENT), readings
-    if draw < 0.8:
-        return upper, rng.choice(PRESENT), rng.choice(UNREAD), 0, readings
-    return rng.choice(UNREAD), 0, lower, rng.choice(PRESENT), readings
-
-
-def characteristic(rng):
-    """A middle, a spread and limits such as document 000 has them for voids, VMA and density."""
-    kind = rng.randrange(3)
-    if kind == 0:
-        target = rng.randrange(3000, 5001, 100)
-        return target + rng.randrange(-600, 601), rng.randrange(200, 1500), target - 1350, target + 1350
-    if kind == 1:
-        minimum = rng.randrange(11000, 17001, 500)
-        return minimum + rng.randrange(-500, 2000), rng.randrange(100, 1200), minimum - 700, minimum + 3000
-    lower, upper = rng.choice(((92500, 97000), (92200, 97000), (93000, 98000), (91500, 97000)))
-    return rng.randrange(91000, 97000), rng.randrange(300, 3000), lower, upper
-
-
-def realistic(rng, times):
-    for _ in range(times):
-        middle, spread, lower, upper = characteristic(rng)
-        grain = rng.choice((100, 10, 1))  # tests are reported to a tenth, a hundredth or a thousandth
-        readings = [round(rng.gauss(middle, spread) / grain) * grain for _ in range(rng.choice(COUNTS))]
-        yield limited(rng, lower, upper, readings)
-
-
-def uniform(rng, times, widest):
-    """Readings and limits that are whole numbers between -widest and widest."""
-    for _ in range(times):
-        readings = [rng.randint(-widest, widest) for _ in range(rng.choice(COUNTS))]
-        lower, upper = sorted((rng.randint(-widest, widest), rng.randint(-widest, widest)))
-        yield limited(rng, lower, upper, readings)
-
-
-def small(rng, times):
-    for widest in 1, 2, 4, 10, 60:
-        yield from uniform(rng, times // 5, widest)
-
-
-def equal(rng, times):
-    for _ in range(times):
-        reading = rng.choice((*EDGES, rng.randint(-RANGE, RANGE)))
-        near = [max(-RANGE, min(RANGE, reading + off)) for off in (-1000, -1, 0, 1, 1000)]
-        lower, upper = sorted((rng.choice(near), rng.choice(near)))
-        yield limited(rng, lower, upper, [reading] * rng.choice(COUNTS))
-
-
-def extreme(rng, times):
-    for _ in range(times):
-        readings = rng.choices(EDGES, k=rng.choice(COUNTS))
-        lower, upper = sorted(rng.choices(EDGES, k=2))
-        yield limited(rng, lower, upper, readings)
-
-
-# Lots at the midpoint between two rows, where the index is exactly (2k-1)/40 for row k, and next to it.
-
-
-def rational(rng, count, widest):
-    """Small readings with a deviation that is a fraction, and count times that deviation. Of two there are none."""
-    while True:
-        readings = [rng.randint(0, widest) for _ in range(count)]
-        spread = count * sum(reading * reading for reading in readings) - sum(readings) ** 2
-        square, remainder = divmod(count * spread, count - 1)
-        root = math.isqrt(square)
-        if spread and not remainder and root * root == square:
-            return readings, root
-
-
-def one_sided(rng, upper, readings):
-    """The lot with this upper limit, in half the cases with a lower one not above it; and its mirror image."""
-    lower = max(-RANGE, upper - rng.choice((0, 1, 100, 3000)))
-    lower_present = rng.choice((0, 1))
-    yield upper, rng.choice(PRESENT), lower, lower_present, readings
-    yield -lower, lower_present, -upper, rng.choice(PRESENT), [-reading for reading in readings]
-
-
-def ties(rng, times):
-    for count, row, sign, _ in itertools.product(range(3, MOST + 1), ROWS, (1, -1), range(times)):
-        readings, root = rational(rng, count, 12)
-        # over 40 * count, the limit at which the index is (2 * row - 1)/40; the readings are scaled to make it whole
-        limit = 40 * sum(readings) + sign * (2 * row - 1) * root
-        scale = 40 * count // math.gcd(40 * count, limit) * rng.randint(1, 20)
-        shift = rng.choice((0, rng.randint(-100_000, 100_000)))
-        tied = scale * limit // (40 * count) + shift
-        for upper in tied - 1, tied, tied + 1:
-            yield from one_sided(rng, upper, [scale * reading + shift for reading in readings])
-
-
-def near_ties(rng, times):
-    """Any readings, with the two limits between which the row changes."""
-    for count, row, sign, _ in itertools.product(COUNTS, ROWS, (1, -1), range(times)):
-        widest = rng.choice((10, 1000, 100_000))
-        readings = [rng.randint(-widest, widest) for _ in range(count - 1)] + [widest + 1]
-        change = papers.mean(readings) + sign * (2 * row - 1) * papers.deviation(readings) / 40
-        for upper in math.floor(change), math.floor(change) + 1:
-            yield from one_sided(rng, upper, readings)
-
-
-def closest_misses(rng):
-    """Two readings cannot tie. These come closest: 40 * distance is nearly root 2 * (2k-1) * their difference."""
-    for row in ROWS:
-        square = 2 * (2 * row - 1) ** 2
-        for distance, difference in convergents(square, 40, 100_000):
-            # the limit is whole if distance and difference are both even or both odd
-            factor = 1 if (distance - difference) % 2 == 0 else 2
-            readings = [0, factor * difference]
-            for sign in 1, -1:
-                upper = factor * (difference + sign * distance) // 2
-                yield from one_sided(rng, upper, readings)
-
-
-def convergents(square, over, most):
-    """The continued fraction of root(square)/over, square not being one: numerators and denominators up to most."""
-    # (root + offset)/divisor is what is left to expand, and divisor divides square - offset^2 if all is scaled by over
-    square, offset, divisor = square * over * over, 0, over * over
-    older, newer = (0, 1), (1, 0)
-    while True:
-        whole = (math.isqrt(square) + offset) // divisor
-        older, newer = newer, (whole * newer[0] + older[0], whole * newer[1] + older[1])
-        if newer[1] > most:
-            return
-        yield newer
-        offset = whole * divisor - offset
-        divisor = (square - offset * offset) // divisor
-
-
-def hairs(rng):
-    """Nine readings whose index misses a midpoint by less than a double can show, above it and below."""
-    # at some rows there are none so near, as where 5 divides 2k-1
-    for row, below in itertools.product((14, 17, 26, 29, 32, 35, 41, 44, 50), (0, 1)):
-        odd = 2 * row - 1
-        # far apart, but so that the range holds the readings and the limit
-        distance, spread = nearly_tied(rng, odd, below, 9 * odd * 900_000 // (40 + max(40, odd)))
-        readings = spread_out(-distance % 9, spread)
-        upper = (sum(readings) + distance) // 9
-        shift = -(min(readings) + max(*readings, upper)) // 2
-        readings = [reading + shift for reading in readings]
-        yield from one_sided(rng, upper + shift, readings)
-        yield from one_sided(rng, -upper - shift, [-reading for reading in readings])
-
-
-def nearly_tied(rng, odd, below, most):
-    """Document 01's D and V for nine readings, with 1600(n-1)D^2 and (2k-1)^2 nV apart by less than a 10^16th part.
-
-    There are such readings if 9 divides V + T^2, T being D short of a multiple of 9, and the quotient, which is the sum
-    of squares, is even or odd as T is.
-    """
-    while True:
-        distance = rng.randrange(most * 3 // 4, most)
-        square = 1600 * 8 * distance**2
-        spread = square // (odd * odd * 9) + below
-        total = -distance % 9
-        fits = (spread + total * total - 9 * total) % 18 == 0
-        if fits and 0 < abs(square - odd * odd * 9 * spread) < square // 10**16:
-            return distance, spread
-
-
-def spread_out(total, spread):
-    """Nine readings with this sum, 0 to 8, and this V: four pairs, each drawn apart until the squares are right."""
-    squares = (spread + total * total) // 9 - total * total
-    half = math.isqrt(squares // 8)
-    pairs = zip((-half, -half, half, half), four_squares(squares // 2 - 4 * half * half))
-    return [total, *(middle + off for middle, apart in pairs for off in (apart, -apart))]
-
-
-def four_squares(number):
-    for first in range(math.isqrt(number), -1, -1):
-        for second in range(math.isqrt(number - first**2), -1, -1):
-            rest = number - first**2 - second**2
-            for third in range(math.isqrt(rest), -1, -1):
-                fourth = math.isqrt(rest - third**2)
-                if third**2 + fourth**2 == rest:
-                    return first, second, third, fourth
-
-
-# Lots that are refused, by every set of reasons.
-
-SIZES = 0, 1, MOST + 1, MOST + 2, 16, 256 + 4
-HELD = 0, 1, MOST + 1, MOST + 2, 255, 256 + 4, 2**16 + 4, 2**31 + 4, 2**32 - 1
-
-
-def subsets(numbers):
-    return itertools.chain.from_iterable(itertools.combinations(numbers, size) for size in range(len(numbers) + 1))
-
-
-def spoiled(rng, reasons, readings):
-    """A lot that gives each of these refusals of 5 to 7 its reason, where the others leave it room."""
-    lower, upper = sorted((rng.randint(-3000, 3000), rng.randint(-3000, 3000)))
-    if 7 in reasons:
-        lower = upper + rng.choice((1, 1, 2, 1000))
-    if 5 in reasons:
-        place = rng.randrange(len(readings) + 2)
-        if place < len(readings):
-            readings[place] = rng.choice(OUTSIDE)
-        elif place == len(readings):
-            upper = rng.choice(OUTSIDE)
-        else:
-            lower = rng.choice(OUTSIDE)
-    presence = 0 if 6 in reasons else rng.choice(PRESENT)
-    return upper, presence, lower, presence, readings
-
-
-def refused(rng, times):
-    for reasons, _ in itertools.product(subsets((4, 5, 6, 7)), range(times)):
-        size = rng.choice(SIZES if 4 in reasons else COUNTS)
-        yield spoiled(rng, reasons, [rng.randint(-3000, 3000) for _ in range(size)])
-
-
 # Calls on lots.
-
-
-def desk():
-    """The desk examples of document 01, and document 000's own."""
-    voids = [4200, 4500, 3300, 5000, 5400, 2500, 3800, 4100, 4300, 4500]
-    vma = [13000, 12500, 13000, 13300, 12900, 12400, 13400, 13000, 12600, 12800]
-    density = [91500, 93000, 92900, 93500, 93000, 94000, 92800, 93500, 91000, 92700]
-    return [
-        (4000, 1, 0, 0, [4000, 4000]),
-        (3999, 1, 0, 0, [4000, 4000]),
-        (2000, 1, 0, 0, [1000, 3000]),
-        (2000, 1, 2000, 1, [1000, 3000]),
-        (21, 1, 0, 0, [0, 0, 0, 80]),
-        (19, 1, 0, 0, [0, 0, 0, 80]),
-        (20, 1, 0, 0, [0, 0, 0, 80]),
-        (21, 1, 19, 1, [0, 0, 0, 80]),
-        (1, 1, 0, 0, [0, 1]),
-        (0, 1, 0, 0, [-RANGE, RANGE]),
-        (5350, 1, 2650, 1, voids),
-        (16000, 1, 12300, 1, vma),
-        (97000, 1, 91500, 1, density),
-    ]
 
 
 def lots(rng):
@@ -290,17 +47,6 @@ def lots(rng):
         yield lot_line("lot", *lot)
     # as many readings as a narrower count would take for four
     yield lot_line("lot", 100, 1, 0, 1, [1, 2, 3, 4] * (2**14 + 1))
-
-
-def halves(rng, times):
-    """Readings with a deviation exactly half way between two thousandths, which only four or nine can have."""
-    while times > 0:
-        count = rng.choice((4, 9))
-        readings, root = rational(rng, count, 6)
-        if 2 * root % count == 0 and 2 * root // count % 2 == 1:
-            times -= 1
-            scale = rng.randrange(1, 60, 2)
-            yield from one_sided(rng, 0, [scale * reading for reading in readings])
 
 
 def deviations(rng):
@@ -343,7 +89,7 @@ def held(rng):
     for reasons, _ in itertools.product(subsets((4, 5, 6, 7)), range(200)):
         count = rng.choice(COUNTS)
         lot = spoiled(rng, reasons, [rng.randint(-3000, 3000) for _ in range(count)])
-        yield line("held", *lot[:4], rng.choice(HELD) if 4 in reasons else count, *placed(rng, lot[4]))
+        yield line("held", *lot[:4], rng.choice(UNHELD) if 4 in reasons else count, *placed(rng, lot[4]))
 
 
 # Records.
@@ -433,7 +179,7 @@ def writes(rng):
         lot = spoiled(rng, reasons, [rng.randint(-3000, 3000) for _ in range(count)])
         need = HEAD.size + 4 * count
         room = rng.choice((0, 1, 12, 13, need - 4, need - 1) if 8 in reasons else (need, need + 1, need + 60))
-        yield line("write", *lot[:4], rng.choice(HELD) if 4 in reasons else count, *placed(rng, lot[4]), room)
+        yield line("write", *lot[:4], rng.choice(UNHELD) if 4 in reasons else count, *placed(rng, lot[4]), room)
 
 
 # Pay.

@@ -1,7 +1,7 @@
 """The calculator a second time, as the papers write it: mean, deviation and quality index in wide decimals.
 
-The library works with whole numbers squared. Here the mean is a quotient, the deviation a root and the index a quotient
-of the two, and pay is reckoned in percent, dollars and tons. Run by itself it answers calls from standard input, a line
+The library works with whole numbers squared. Here the mean is a quotient, the deviation a root and the index the
+limit's distance from that mean over that deviation, and pay is reckoned in percent, dollars and tons. Run by itself it answers calls from standard input, a line
 each, as hosts/answers.c does over the library.
 
 Why 60 digits decide an exact tie. With n readings the square of the index is a fraction whose denominator divides

@@ -89,7 +89,7 @@ class Example(unittest.TestCase):
     def test_composite_verdict_and_pay(self):
         self.assertEqual((self.of("Composite"), self.of("Lot")), (["0.998"], ["accepted"]))
         (pay,) = self.of("Pay")
-        self.assertRegex(pay, r"^\$638,720\.00 .*\b8,000 tons\b.*\$80\.00 a ton$")
+        self.assertRegex(pay, r"^\$638,720\.00 .*\b8,000 tons\b.*\$80\.00 a ton \(document 01's\)$")
 
     def test_mean_and_deviation_are_those_of_the_readings(self):
         for name, readings in READINGS.items():

@@ -33,7 +33,7 @@ absent-is-unread y z = refl
 pub other-is-present : (z : ℤ) (presence : ℕ) → lent-limit z (suc presence) ≡ At (thousandths z)
 other-is-present z presence = rw (eqb·suc-zero presence)
 
--- Ten numbers that a host holds for a lot, an upper limit and the number of an absent lower one.
+-- A lot as a host holds it: ten places, an upper limit, and a lower one's number and presence.
 abbrev numbers : ℕ → ℤ → ℕ → HostLot
 numbers count lower presence =
     record {
@@ -86,7 +86,7 @@ pub refused-read-is-nothing : (bs : List ℕ) (k : ℕ) → read-says bs ≡ ref
 unfolding host-lot held
 refused-read-is-nothing bs k e = ap (λ (said : Said Lot). host-read (beside said)) e
 
--- Of every other answer: one that is refused, and document 000's example or D9.
+-- Of every other answer: one that is refused, and one that is not.
 pub mean-is-given :
     (host-mean (refused 4) ≡ record { refusal = 4; total = pos 0; count = 0 }) ×
     (host-mean (answers (record { total = thousandths (pos 41600); count = 10 })) ≡ record { refusal = 0; total = pos 41600; count = 10 })
@@ -103,7 +103,7 @@ pub percentages-are-given :
     record { refusal = 0; upper = pos 9337; lower = pos 9791; pwl = pos 9128 })
 percentages-are-given = (refl, refl)
 
--- A verdict's numbers are document 02's: 0 accepted, 1 rejected.
+-- A verdict's number is 0 accepted, 1 rejected.
 pub payment-is-given :
     (host-payment (refused 9) ≡ record { refusal = 9; composite = pos 0; vma = 0; voids = 0; density = 0; lot = 0; pay = pos 0 }) ×
     (host-payment (answers (record { composite = composite-of (pos 998); vma = Accepted; voids = Rejected; density = Accepted; lot = Rejected; pay = cents (pos 63872000) })) ≡

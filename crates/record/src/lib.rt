@@ -33,7 +33,7 @@ ghost use Rattle.laws.specs.Head.{HeadAccepted};
 
 const LONGEST: usize = HEAD + 4 * MOST;
 
-// So many numbers of four bytes each, and zeros after them. Inner: what is read has room for them.
+// So many numbers of four bytes each, and zeros after them. Inner: a record's reader and the notebook's row ask for no more than the bytes hold.
 pub fn fours(bytes: &[u8], n: usize) -> [i32; MOST]
     requires { ⌜ (n ≤ most) × (4 * n ≤ length (now bytes)) ⌝ }
     ensures { λ r. ⌜ r ≡ fours n (now (bytes .entry)) ++ replicate (most - n) (pos 0) ⌝ }

@@ -1,4 +1,4 @@
--- Document 01, "The notebook", for every entry: what a host is given in plain numbers. The refusal's number stands first, 0 for none;
+-- In the manner of document 01's notebook, for every other entry: what a host is given in plain numbers. The refusal's number stands first, 0 for none;
 -- of what is refused every other number is 0.
 use mathlib.Core.List.{[], _∷_, map}
 use Prim.Native.Nat.{ℕ}

@@ -29,8 +29,8 @@ bench: target/bench/bench
 # It is proved before it is compiled.
 $(LIBRARY).a: crates.txt $(SOURCES)
 	@mkdir -p $(@D)
-	@rt staticlib notebook > target/staticlib.log 2>&1 || { cat target/staticlib.log; exit 1; }
-	@cp target/staticlib/libnotebook.a $@
+	@rt staticlib tulpavice > target/staticlib.log 2>&1 || { cat target/staticlib.log; exit 1; }
+	@cp target/staticlib/libtulpavice.a $@
 
 $(LIBRARY).so: $(LIBRARY).a
 	@$(SHARED)

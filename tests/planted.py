@@ -36,12 +36,13 @@ def reached(root, crate):
 
 
 def copy(root, to, crate):
-    """Copies what a crate's check reads, with what is proved of it, so that only what an edit reaches is proved again."""
+    """Copies the crates, with what is proved of one and of all that it reads, so that only what an edit reaches is proved again."""
     shutil.copy(root / "crates.txt", to)
+    shutil.copytree(root / "crates", to / "crates", symlinks=True)
     for name in reached(root, crate):
-        for part in f"crates/{name}", f"target/rlib/{name}.rlib":
-            if (root / part).exists():
-                shutil.copytree(root / part, to / part, symlinks=True)
+        part = f"target/rlib/{name}.rlib"
+        if (root / part).exists():
+            shutil.copytree(root / part, to / part, symlinks=True)
         if (root / "target/stamp" / name).exists():
             (to / "target/stamp").mkdir(parents=True, exist_ok=True)
             shutil.copy(root / "target/stamp" / name, to / "target/stamp")

@@ -1,32 +1,26 @@
-// Answers as the plain numbers that a host in C is given, and its numbers as a limit and a lot.
-use places::numbers;
+// Answers as the plain numbers that a host in C is given, and its numbers as a limit.
 use rules::DeviationAnswer;
 use rules::Evaluation;
-use rules::HeldLot;
 use rules::Limit;
 use rules::Limits;
 use rules::MeanAnswer;
 use rules::MixtureAnswer;
 use rules::Outcome;
 use rules::PayAnswer;
-use rules::ReadAnswer;
 use rules::Thousandths;
 use rules::Verdict;
 use rules::WriteAnswer;
 use rules::host::HostDeviation;
-use rules::host::HostLimit;
-use rules::host::HostLot;
 use rules::host::HostMean;
 use rules::host::HostMixtureLimits;
 use rules::host::HostPair;
 use rules::host::HostPayment;
 use rules::host::HostPercentages;
-use rules::host::HostRead;
 use rules::host::HostWritten;
 ghost use mathlib.Core.Path.{_≡_};
 ghost use Rattle.rules.specs.Notebook.{lent-limit, refusal-asked};
-ghost use Rattle.rules.specs.Answers.{outcome-said, mean-said, deviation-said, evaluation-said, pay-said, mixture-said, read-said, write-said};
-ghost use Rattle.rules.specs.Host.{host-mean, host-deviation, host-percentages, verdict-number, host-payment, host-pair, host-mixture-limits, held-limit, held-lot, limit-numbers, host-lot, host-read, host-written};
+ghost use Rattle.rules.specs.Answers.{outcome-said, mean-said, deviation-said, evaluation-said, pay-said, mixture-said, write-said};
+ghost use Rattle.rules.specs.Host.{host-mean, host-deviation, host-percentages, verdict-number, host-payment, host-pair, host-mixture-limits, host-written};
 
 // The refusal, 0 for none.
 pub fn refusal(said: Outcome) -> u32
@@ -165,84 +159,6 @@ pub fn mixture_limits(answer: MixtureAnswer) -> HostMixtureLimits
             voids: pair(l.voids),
             density: pair(l.density),
         },
-    }
-}
-
-fn held_limit(given: HostLimit) -> Limit
-    ensures { λ r. ⌜ r ≡ held-limit given ⌝ }
-{
-    limit(given.number, given.presence)
-}
-
-// The lot in memory that a host's numbers are.
-pub fn held_lot(lot: HostLot) -> HeldLot
-    ensures { λ r. ⌜ r ≡ held-lot lot ⌝ }
-{
-    HeldLot {
-        upper: held_limit(lot.upper),
-        lower: held_limit(lot.lower),
-        count: lot.count,
-        readings: [
-            Thousandths(lot.first),
-            Thousandths(lot.second),
-            Thousandths(lot.third),
-            Thousandths(lot.fourth),
-            Thousandths(lot.fifth),
-            Thousandths(lot.sixth),
-            Thousandths(lot.seventh),
-            Thousandths(lot.eighth),
-            Thousandths(lot.ninth),
-            Thousandths(lot.tenth),
-        ],
-    }
-}
-
-fn limit_numbers(limit: Limit) -> HostLimit
-    ensures { λ r. ⌜ r ≡ limit-numbers limit ⌝ }
-{
-    match limit {
-        Limit::Absent => HostLimit {
-            number: 0,
-            presence: 0,
-        },
-        Limit::At(z) => HostLimit {
-            number: z.0,
-            presence: 1,
-        },
-    }
-}
-
-fn host_lot(lot: HeldLot) -> HostLot
-    ensures { λ r. ⌜ r ≡ host-lot lot ⌝ }
-{
-    let upper = lot.upper;
-    let lower = lot.lower;
-    let held = lot.readings;
-    let readings = numbers(held);
-    HostLot {
-        upper: limit_numbers(upper),
-        lower: limit_numbers(lower),
-        count: lot.count,
-        first: readings[0],
-        second: readings[1],
-        third: readings[2],
-        fourth: readings[3],
-        fifth: readings[4],
-        sixth: readings[5],
-        seventh: readings[6],
-        eighth: readings[7],
-        ninth: readings[8],
-        tenth: readings[9],
-    }
-}
-
-pub fn read(answer: ReadAnswer) -> HostRead
-    ensures { λ r. ⌜ r ≡ host-read (read-said answer) ⌝ }
-{
-    let said = answer.said;
-    HostRead {
-        refusal: refusal(said),
-        lot: host_lot(answer.lot),
     }
 }
 

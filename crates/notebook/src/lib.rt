@@ -1,158 +1,161 @@
-// Every entry, for a host in C: include/tulpavice.h declares them. Thin: what is worked out is worked out below.
-pub mod row;
-
-use host::held_lot;
-use host::limit;
-use rules::Cents;
-use rules::HundredthTons;
-use rules::Hundredths;
-use rules::Thousandths;
-use rules::host::HostDeviation;
-use rules::host::HostLot;
-use rules::host::HostMean;
-use rules::host::HostMixtureLimits;
-use rules::host::HostPayment;
-use rules::host::HostPercentages;
-use rules::host::HostRead;
-use rules::host::HostWritten;
+// The notebook's row: mean, deviation and PWL as doubles, of readings that come as bytes.
+use quality::percentages;
+use readings::rounded;
+use readings::spread;
+use readings::totals;
+use record::fours;
+use refusals::allowed;
+use rules::Limit;
+use rules::Outcome;
+use rules::Refusal;
+use rules::Row;
+use rules::RowAnswer;
+use rules::Totals;
 ghost use mathlib.Core.Path.{_≡_};
-ghost use Rattle.rules.specs.Lot.{lot-of, lot-in};
-ghost use Rattle.rules.specs.Notebook.{lent-limit, refusal-asked, mean-asked, deviation-asked, pwl-asked};
-ghost use Rattle.rules.specs.Entries.{mean-says, deviation-says, evaluation-says, read-leaves, write-says, after-write, pay-says, mixture-says, row-says};
-ghost use Rattle.rules.specs.Host.{host-mean, host-deviation, host-percentages, host-payment, host-mixture-limits, held-lot, host-read, host-written};
+ghost use mathlib.Core.Bool.{false};
+ghost use Prim.Native.Nat.{_*_, _/_};
+ghost use lib.IntN.{pos};
+ghost use lib.ListN.{length};
+ghost use Rattle.rules.specs.Said.{ruled};
+ghost use Rattle.rules.specs.Lot.{lot-of};
+ghost use Rattle.rules.specs.Table.{table-106-1};
+ghost use Rattle.rules.specs.Percent.{nearest, totals, spread};
+ghost use Rattle.rules.specs.Deviation.{deviation};
+ghost use Rattle.rules.specs.Record.{fours};
+ghost use Rattle.rules.specs.Refusals.{told, out-of-range, size-fits};
+ghost use Rattle.rules.specs.Meets.{evaluation-meets, row-meets};
+ghost use Rattle.rules.specs.Notebook.{lent-lot, over, refusal-asked, mean-asked, deviation-asked, pwl-asked};
+ghost use Rattle.rules.specs.Answers.{row-said};
+ghost use Rattle.rules.specs.Entries.{percentages-of, row-says};
+ghost use Rattle.laws.specs.Bounds.{Bounded};
+ghost use Rattle.laws.specs.Lent.{with-totals};
 
-#[no_mangle]
-pub extern "C" fn tulpavice_mean(readings: &[i32]) -> HostMean
-    ensures { λ r. ⌜ r ≡ host-mean (mean-says (now (readings .entry))) ⌝ }
-{
-    host::mean(readings::mean(readings))
+// Each double of a refused lot.
+const REFUSED: f64 = 0.0;
+
+// What is said of a lot that is lent, and its totals where it is not refused.
+struct LentLot {
+    said: Outcome,
+    totals: Totals,
 }
 
-#[no_mangle]
-pub extern "C" fn tulpavice_deviation(readings: &[i32]) -> HostDeviation
-    ensures { λ r. ⌜ r ≡ host-deviation (deviation-says (now (readings .entry))) ⌝ }
+// Four bytes to each of an allowed number of readings.
+fn fits(size: usize) -> bool
+    ensures { λ r. ⌜ r ≡ size-fits size ⌝ }
 {
-    host::deviation(readings::deviation(readings))
+    (size % 4 == 0) & allowed(size / 4)
 }
 
-#[no_mangle]
-pub extern "C" fn tulpavice_evaluate(
-    readings: &[i32],
-    upper: i32,
-    upper_present: u32,
-    lower: i32,
-    lower_present: u32,
-) -> HostPercentages
-    ensures { λ r. ⌜ r ≡ host-percentages (evaluation-says (lot-of (lent-limit upper «upper_present») (lent-limit lower «lower_present») (now (readings .entry)))) ⌝ }
+fn refused(refusal: Refusal) -> LentLot
+    ensures { λ r. ⌜ with-totals (r .said) (r .totals) ≡ told refusal ⌝ }
 {
-    let above = limit(upper, upper_present);
-    let below = limit(lower, lower_present);
-    host::percentages(quality::evaluate(readings, above, below))
+    LentLot {
+        said: Outcome::Refused(refusal),
+        totals: Totals { n: 0, t: 0, z: 0 },
+    }
 }
 
-#[no_mangle]
-pub extern "C" fn tulpavice_evaluate_lot(lot: HostLot) -> HostPercentages
-    ensures { λ r. ⌜ r ≡ host-percentages (evaluation-says (lot-in (held-lot lot))) ⌝ }
+fn totalled(readings: &[i32], upper: Limit, lower: Limit) -> LentLot
+    ensures { λ r. ⌜ with-totals (r .said) (r .totals) ≡ ruled (evaluation-meets (lot-of upper lower (now (readings .entry)))) (totals (length (now (readings .entry))) (now (readings .entry))) ⌝ }
 {
-    host::percentages(quality::evaluate_held(held_lot(lot)))
+    match refusals::evaluation(readings, upper, lower) {
+        Outcome::Refused(refusal) => refused(refusal),
+        Outcome::Answers => LentLot {
+            said: Outcome::Answers,
+            totals: totals(readings),
+        },
+    }
 }
 
-#[no_mangle]
-pub extern "C" fn tulpavice_pay(
-    vma: i64,
-    voids: i64,
-    density: i64,
-    price: i64,
-    quantity: i64,
-) -> HostPayment
-    ensures { λ r. ⌜ r ≡ host-payment (pay-says vma voids density price quantity) ⌝ }
+fn lent(bytes: &[u8], upper: Limit, lower: Limit) -> LentLot
+    ensures { λ r. ⌜ with-totals (r .said) (r .totals) ≡ ruled (row-meets (now (bytes .entry)) (lent-lot upper lower (now (bytes .entry)))) (totals (length (now (bytes .entry)) / 4) (fours (length (now (bytes .entry)) / 4) (now (bytes .entry)))) ⌝ }
 {
-    host::payment(pay::payment(
-        Hundredths(vma),
-        Hundredths(voids),
-        Hundredths(density),
-        Cents(price),
-        HundredthTons(quantity),
-    ))
+    let n = bytes.len() / 4;
+    if fits(bytes.len()) {
+        let numbers = fours(bytes, n);
+        totalled(&numbers[..n], upper, lower)
+    } else {
+        refused(Refusal::Count)
+    }
 }
 
-#[no_mangle]
-pub extern "C" fn tulpavice_mixture(mixture: i64, minimum: i32, target: i32) -> HostMixtureLimits
-    ensures { λ r. ⌜ r ≡ host-mixture-limits (mixture-says mixture minimum target) ⌝ }
+// T over 1000·n: both are exact as doubles, so the quotient is rounded once.
+fn mean_of(a: Totals) -> f64
+    requires { ⌜ Bounded a ⌝ }
+    ensures { λ r. ⌜ r ≡ over (a .t) (1000 * a .n) ⌝ }
 {
-    host::mixture_limits(mixture::lookup(mixture, Thousandths(minimum), Thousandths(target)))
+    a.t as i32 as f64 / (1000 * a.n) as f64
 }
 
-#[no_mangle]
-pub extern "C" fn tulpavice_read(bytes: &[u8]) -> HostRead
-    ensures { λ r. ⌜ r ≡ host-read (read-leaves (now (bytes .entry))) ⌝ }
+fn deviation_of(a: Totals) -> f64
+    requires { ⌜ Bounded a ⌝ }
+    ensures { λ r. ⌜ r ≡ over (pos (deviation (a .n) (spread a))) 1000 ⌝ }
 {
-    host::read(record::read(bytes))
+    rounded(a.n as u64, spread(a)) as i32 as f64 / 1000 as f64
 }
 
-#[no_mangle]
-pub extern "C" fn tulpavice_write(lot: HostLot, out: &mut [u8]) -> HostWritten
-    ensures { λ r. ⌜ (r ≡ host-written (write-says (lot-in (held-lot lot)) (now (out .entry)))) × (now (out .exit) ≡ after-write (lot-in (held-lot lot)) (now (out .entry))) ⌝ }
+fn pwl_of(a: Totals, upper: Limit, lower: Limit) -> f64
+    requires { ⌜ Bounded a × (out-of-range upper ≡ false) × (out-of-range lower ≡ false) ⌝ }
+    ensures { λ r. ⌜ r ≡ over (percentages-of nearest table-106-1 a upper lower .pwl .0) 100 ⌝ }
 {
-    host::written(record::write(held_lot(lot), out))
+    let p = percentages(a, upper, lower);
+    p.pwl.0 as i32 as f64 / 100 as f64
 }
 
-#[no_mangle]
-pub extern "C" fn tulpavice_row_refusal(
-    readings: &[u8],
-    upper: i32,
-    upper_present: u32,
-    lower: i32,
-    lower_present: u32,
-) -> u32
-    ensures { λ r. ⌜ r ≡ refusal-asked (row-says (lent-limit upper «upper_present») (lent-limit lower «lower_present») (now (readings .entry))) ⌝ }
+// The row of an accepted lot.
+pub fn row(bytes: &[u8], upper: Limit, lower: Limit) -> RowAnswer
+    ensures { λ r. ⌜ row-said r ≡ row-says upper lower (now (bytes .entry)) ⌝ }
 {
-    let above = limit(upper, upper_present);
-    let below = limit(lower, lower_present);
-    row::refusal(readings, above, below)
+    let lot = lent(bytes, upper, lower);
+    let said = lot.said;
+    match said {
+        Outcome::Refused(refusal) => RowAnswer::Refused(refusal),
+        Outcome::Answers => RowAnswer::Answers(Row {
+            mean: mean_of(lot.totals),
+            deviation: deviation_of(lot.totals),
+            pwl: pwl_of(lot.totals, upper, lower),
+        }),
+    }
 }
 
-#[no_mangle]
-pub extern "C" fn tulpavice_row_mean(
-    readings: &[u8],
-    upper: i32,
-    upper_present: u32,
-    lower: i32,
-    lower_present: u32,
-) -> f64
-    ensures { λ r. ⌜ r ≡ mean-asked (row-says (lent-limit upper «upper_present») (lent-limit lower «lower_present») (now (readings .entry))) ⌝ }
+// The refusal alone, and each double alone: the deviation's search is not run for another's sake.
+pub fn refusal(bytes: &[u8], upper: Limit, lower: Limit) -> u32
+    ensures { λ r. ⌜ r ≡ refusal-asked (row-says upper lower (now (bytes .entry))) ⌝ }
 {
-    let above = limit(upper, upper_present);
-    let below = limit(lower, lower_present);
-    row::mean(readings, above, below)
+    let lot = lent(bytes, upper, lower);
+    let said = lot.said;
+    host::refusal(said)
 }
 
-#[no_mangle]
-pub extern "C" fn tulpavice_row_deviation(
-    readings: &[u8],
-    upper: i32,
-    upper_present: u32,
-    lower: i32,
-    lower_present: u32,
-) -> f64
-    ensures { λ r. ⌜ r ≡ deviation-asked (row-says (lent-limit upper «upper_present») (lent-limit lower «lower_present») (now (readings .entry))) ⌝ }
+pub fn mean(bytes: &[u8], upper: Limit, lower: Limit) -> f64
+    ensures { λ r. ⌜ r ≡ mean-asked (row-says upper lower (now (bytes .entry))) ⌝ }
 {
-    let above = limit(upper, upper_present);
-    let below = limit(lower, lower_present);
-    row::deviation(readings, above, below)
+    let lot = lent(bytes, upper, lower);
+    let said = lot.said;
+    match said {
+        Outcome::Refused(_) => REFUSED,
+        Outcome::Answers => mean_of(lot.totals),
+    }
 }
 
-#[no_mangle]
-pub extern "C" fn tulpavice_row_pwl(
-    readings: &[u8],
-    upper: i32,
-    upper_present: u32,
-    lower: i32,
-    lower_present: u32,
-) -> f64
-    ensures { λ r. ⌜ r ≡ pwl-asked (row-says (lent-limit upper «upper_present») (lent-limit lower «lower_present») (now (readings .entry))) ⌝ }
+pub fn deviation(bytes: &[u8], upper: Limit, lower: Limit) -> f64
+    ensures { λ r. ⌜ r ≡ deviation-asked (row-says upper lower (now (bytes .entry))) ⌝ }
 {
-    let above = limit(upper, upper_present);
-    let below = limit(lower, lower_present);
-    row::pwl(readings, above, below)
+    let lot = lent(bytes, upper, lower);
+    let said = lot.said;
+    match said {
+        Outcome::Refused(_) => REFUSED,
+        Outcome::Answers => deviation_of(lot.totals),
+    }
+}
+
+pub fn pwl(bytes: &[u8], upper: Limit, lower: Limit) -> f64
+    ensures { λ r. ⌜ r ≡ pwl-asked (row-says upper lower (now (bytes .entry))) ⌝ }
+{
+    let lot = lent(bytes, upper, lower);
+    let said = lot.said;
+    match said {
+        Outcome::Refused(_) => REFUSED,
+        Outcome::Answers => pwl_of(lot.totals, upper, lower),
+    }
 }

@@ -1,0 +1,92 @@
+// A lot as a host in C holds it, and back.
+use host::limit;
+use host::refusal;
+use places::numbers;
+use rules::HeldLot;
+use rules::Limit;
+use rules::ReadAnswer;
+use rules::Thousandths;
+use rules::host::HostLimit;
+use rules::host::HostLot;
+use rules::host::HostRead;
+ghost use mathlib.Core.Path.{_≡_};
+ghost use Rattle.rules.specs.Answers.{read-said};
+ghost use Rattle.rules.specs.Host.{held-limit, held-lot, limit-numbers, host-lot, host-read};
+
+fn held_limit(given: HostLimit) -> Limit
+    ensures { λ r. ⌜ r ≡ held-limit given ⌝ }
+{
+    limit(given.number, given.presence)
+}
+
+// The lot in memory that a host's numbers are.
+pub fn held_lot(lot: HostLot) -> HeldLot
+    ensures { λ r. ⌜ r ≡ held-lot lot ⌝ }
+{
+    HeldLot {
+        upper: held_limit(lot.upper),
+        lower: held_limit(lot.lower),
+        count: lot.count,
+        readings: [
+            Thousandths(lot.first),
+            Thousandths(lot.second),
+            Thousandths(lot.third),
+            Thousandths(lot.fourth),
+            Thousandths(lot.fifth),
+            Thousandths(lot.sixth),
+            Thousandths(lot.seventh),
+            Thousandths(lot.eighth),
+            Thousandths(lot.ninth),
+            Thousandths(lot.tenth),
+        ],
+    }
+}
+
+fn limit_numbers(limit: Limit) -> HostLimit
+    ensures { λ r. ⌜ r ≡ limit-numbers limit ⌝ }
+{
+    match limit {
+        Limit::Absent => HostLimit {
+            number: 0,
+            presence: 0,
+        },
+        Limit::At(z) => HostLimit {
+            number: z.0,
+            presence: 1,
+        },
+    }
+}
+
+fn host_lot(lot: HeldLot) -> HostLot
+    ensures { λ r. ⌜ r ≡ host-lot lot ⌝ }
+{
+    let upper = lot.upper;
+    let lower = lot.lower;
+    let held = lot.readings;
+    let readings = numbers(held);
+    HostLot {
+        upper: limit_numbers(upper),
+        lower: limit_numbers(lower),
+        count: lot.count,
+        first: readings[0],
+        second: readings[1],
+        third: readings[2],
+        fourth: readings[3],
+        fifth: readings[4],
+        sixth: readings[5],
+        seventh: readings[6],
+        eighth: readings[7],
+        ninth: readings[8],
+        tenth: readings[9],
+    }
+}
+
+pub fn read(answer: ReadAnswer) -> HostRead
+    ensures { λ r. ⌜ r ≡ host-read (read-said answer) ⌝ }
+{
+    let said = answer.said;
+    HostRead {
+        refusal: refusal(said),
+        lot: host_lot(answer.lot),
+    }
+}

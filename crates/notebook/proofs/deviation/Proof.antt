@@ -1,0 +1,34 @@
+-- A refused lot's deviation is 0; else it is that of the totals, and so the row's.
+use mathlib.Core.Path.{sym, ap, _∙_}
+use borrow.Author.Needs.{needs}
+use lib.Ieee.{ofBits}
+use Rattle.rules.specs.Notebook.{row-of, deviation-asked}
+use Rattle.laws.proofs.Lent.{LentAccepted, lent-accepted, lent-refused}
+use Rattle.notebook.proofs.deviation.Statement.{statement}
+use Rattle.notebook.proofs.deviation.Tie as tie
+
+accepted : (c : tie.After-enum-told2) → LentAccepted (c .before .before .before .before .args .upper) (c .before .before .before .before .args .lower) (c .before .before .before .before .args .bytes .now) (c .before .before .lent .result .totals)
+accepted c = lent-accepted _ _ _ _ _ (c .before .before .lent .ensures) (c .enum-told2 .given .1)
+
+lent-requires : tie.Need-lent-requires
+lent-requires c κs = search needs
+
+enum-told : tie.Need-enum-told
+enum-told c = search needs
+
+enum-told-2 : tie.Need-enum-told-2
+enum-told-2 c = search needs
+
+deviation-of-requires : tie.Need-deviation-of-requires
+deviation-of-requires c κs = accepted c .bounded
+
+returns : tie.Need-returns
+unfolding ofBits
+returns c = sym (ap deviation-asked (lent-refused _ _ _ _ _ (c .before .before .lent .ensures) (c .enum-told .given .1)))
+
+returns-2 : tie.Need-returns-2
+unfolding row-of
+returns-2 c = c .deviation-of .ensures ∙ sym (ap deviation-asked (accepted (c .before) .row))
+
+pub deviation-spec : {M : Type 1} → statement M
+deviation-spec = tie.close (tie.spec lent-requires enum-told enum-told-2 deviation-of-requires returns returns-2)

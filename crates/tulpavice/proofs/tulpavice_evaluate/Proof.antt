@@ -1,0 +1,36 @@
+-- The two limits are those of their numbers and presences; what is said then, in plain numbers.
+use mathlib.Core.Path.{_≡_, ap, _∙_}
+use borrow.Author.Needs.{needs}
+use mir.Facts.{toZ-ofZ}
+use Rattle.rules.specs.Lot.{lot-of}
+use Rattle.rules.specs.Notebook.{lent-limit}
+use Rattle.rules.specs.Entries.{evaluation-says}
+use Rattle.rules.specs.Host.{host-percentages}
+use Rattle.tulpavice.proofs.tulpavice_evaluate.Statement.{statement}
+use Rattle.tulpavice.proofs.tulpavice_evaluate.Tie as tie
+
+limit-requires : tie.Need-limit-requires
+limit-requires c κs = search needs
+
+limit-requires-2 : tie.Need-limit-requires-2
+limit-requires-2 c κs = search needs
+
+evaluate-requires : tie.Need-evaluate-requires
+evaluate-requires c κs = search needs
+
+percentages-requires : tie.Need-percentages-requires
+percentages-requires c κs = search needs
+
+returns : tie.Need-returns
+returns c =
+    let start = c .before .before .before .before in
+    let f = start .fits .upper in
+    let g = start .fits .lower in
+    let upper : c .before .before .before .limit .result ≡ lent-limit (start .args .upper) (start .args .upper-present) = simp toZ-ofZ at (c .before .before .before .limit .ensures) in
+    let lower : c .before .before .limit2 .result ≡ lent-limit (start .args .lower) (start .args .lower-present) = simp toZ-ofZ at (c .before .before .limit2 .ensures) in
+    c .percentages .ensures ∙ ap host-percentages (c .before .evaluate .ensures ∙ (λ i. evaluation-says (lot-of (upper i) (lower i) (start .args .readings .now))))
+
+pub tulpavice-evaluate-spec : {M : Type 1} → statement M
+tulpavice-evaluate-spec =
+    tie.close
+    (tie.spec limit-requires limit-requires-2 evaluate-requires percentages-requires returns)

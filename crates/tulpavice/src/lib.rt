@@ -1,0 +1,156 @@
+// Every entry, for a host in C: include/tulpavice.h declares them. Thin: what is worked out is worked out below.
+use host::limit;
+use hostlot::held_lot;
+use rules::Cents;
+use rules::HundredthTons;
+use rules::Hundredths;
+use rules::Thousandths;
+use rules::host::HostDeviation;
+use rules::host::HostLot;
+use rules::host::HostMean;
+use rules::host::HostMixtureLimits;
+use rules::host::HostPayment;
+use rules::host::HostPercentages;
+use rules::host::HostRead;
+use rules::host::HostWritten;
+ghost use mathlib.Core.Path.{_≡_};
+ghost use Rattle.rules.specs.Lot.{lot-of, lot-in};
+ghost use Rattle.rules.specs.Notebook.{lent-limit, refusal-asked, mean-asked, deviation-asked, pwl-asked};
+ghost use Rattle.rules.specs.Entries.{mean-says, deviation-says, evaluation-says, read-leaves, write-says, after-write, pay-says, mixture-says, row-says};
+ghost use Rattle.rules.specs.Host.{host-mean, host-deviation, host-percentages, host-payment, host-mixture-limits, held-lot, host-read, host-written};
+
+#[no_mangle]
+pub extern "C" fn tulpavice_mean(readings: &[i32]) -> HostMean
+    ensures { λ r. ⌜ r ≡ host-mean (mean-says (now (readings .entry))) ⌝ }
+{
+    host::mean(readings::mean(readings))
+}
+
+#[no_mangle]
+pub extern "C" fn tulpavice_deviation(readings: &[i32]) -> HostDeviation
+    ensures { λ r. ⌜ r ≡ host-deviation (deviation-says (now (readings .entry))) ⌝ }
+{
+    host::deviation(readings::deviation(readings))
+}
+
+#[no_mangle]
+pub extern "C" fn tulpavice_evaluate(
+    readings: &[i32],
+    upper: i32,
+    upper_present: u32,
+    lower: i32,
+    lower_present: u32,
+) -> HostPercentages
+    ensures { λ r. ⌜ r ≡ host-percentages (evaluation-says (lot-of (lent-limit upper «upper_present») (lent-limit lower «lower_present») (now (readings .entry)))) ⌝ }
+{
+    let above = limit(upper, upper_present);
+    let below = limit(lower, lower_present);
+    host::percentages(quality::evaluate(readings, above, below))
+}
+
+#[no_mangle]
+pub extern "C" fn tulpavice_evaluate_lot(lot: HostLot) -> HostPercentages
+    ensures { λ r. ⌜ r ≡ host-percentages (evaluation-says (lot-in (held-lot lot))) ⌝ }
+{
+    host::percentages(quality::evaluate_held(held_lot(lot)))
+}
+
+#[no_mangle]
+pub extern "C" fn tulpavice_pay(
+    vma: i64,
+    voids: i64,
+    density: i64,
+    price: i64,
+    quantity: i64,
+) -> HostPayment
+    ensures { λ r. ⌜ r ≡ host-payment (pay-says vma voids density price quantity) ⌝ }
+{
+    host::payment(pay::payment(
+        Hundredths(vma),
+        Hundredths(voids),
+        Hundredths(density),
+        Cents(price),
+        HundredthTons(quantity),
+    ))
+}
+
+#[no_mangle]
+pub extern "C" fn tulpavice_mixture(mixture: i64, minimum: i32, target: i32) -> HostMixtureLimits
+    ensures { λ r. ⌜ r ≡ host-mixture-limits (mixture-says mixture minimum target) ⌝ }
+{
+    host::mixture_limits(mixture::lookup(mixture, Thousandths(minimum), Thousandths(target)))
+}
+
+#[no_mangle]
+pub extern "C" fn tulpavice_read(bytes: &[u8]) -> HostRead
+    ensures { λ r. ⌜ r ≡ host-read (read-leaves (now (bytes .entry))) ⌝ }
+{
+    hostlot::read(record::read(bytes))
+}
+
+#[no_mangle]
+pub extern "C" fn tulpavice_write(lot: HostLot, out: &mut [u8]) -> HostWritten
+    ensures { λ r. ⌜ (r ≡ host-written (write-says (lot-in (held-lot lot)) (now (out .entry)))) × (now (out .exit) ≡ after-write (lot-in (held-lot lot)) (now (out .entry))) ⌝ }
+{
+    host::written(record::write(held_lot(lot), out))
+}
+
+#[no_mangle]
+pub extern "C" fn tulpavice_row_refusal(
+    readings: &[u8],
+    upper: i32,
+    upper_present: u32,
+    lower: i32,
+    lower_present: u32,
+) -> u32
+    ensures { λ r. ⌜ r ≡ refusal-asked (row-says (lent-limit upper «upper_present») (lent-limit lower «lower_present») (now (readings .entry))) ⌝ }
+{
+    let above = limit(upper, upper_present);
+    let below = limit(lower, lower_present);
+    notebook::refusal(readings, above, below)
+}
+
+#[no_mangle]
+pub extern "C" fn tulpavice_row_mean(
+    readings: &[u8],
+    upper: i32,
+    upper_present: u32,
+    lower: i32,
+    lower_present: u32,
+) -> f64
+    ensures { λ r. ⌜ r ≡ mean-asked (row-says (lent-limit upper «upper_present») (lent-limit lower «lower_present») (now (readings .entry))) ⌝ }
+{
+    let above = limit(upper, upper_present);
+    let below = limit(lower, lower_present);
+    notebook::mean(readings, above, below)
+}
+
+#[no_mangle]
+pub extern "C" fn tulpavice_row_deviation(
+    readings: &[u8],
+    upper: i32,
+    upper_present: u32,
+    lower: i32,
+    lower_present: u32,
+) -> f64
+    ensures { λ r. ⌜ r ≡ deviation-asked (row-says (lent-limit upper «upper_present») (lent-limit lower «lower_present») (now (readings .entry))) ⌝ }
+{
+    let above = limit(upper, upper_present);
+    let below = limit(lower, lower_present);
+    notebook::deviation(readings, above, below)
+}
+
+#[no_mangle]
+pub extern "C" fn tulpavice_row_pwl(
+    readings: &[u8],
+    upper: i32,
+    upper_present: u32,
+    lower: i32,
+    lower_present: u32,
+) -> f64
+    ensures { λ r. ⌜ r ≡ pwl-asked (row-says (lent-limit upper «upper_present») (lent-limit lower «lower_present») (now (readings .entry))) ⌝ }
+{
+    let above = limit(upper, upper_present);
+    let below = limit(lower, lower_present);
+    notebook::pwl(readings, above, below)
+}

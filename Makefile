@@ -1,4 +1,4 @@
-.PHONY: run lib test bench
+.PHONY: run lib check test bench
 .DELETE_ON_ERROR:
 # objects stay, and no rule says that it removes one
 .SECONDARY:
@@ -18,6 +18,10 @@ run: $(HOST)/notebook
 # The library for C, and for whoever loads it.
 lib: $(LIBRARY).a $(LIBRARY).so
 
+# The edit loop: proves what changed, audits the tree, and tries the edits of what differs from the last commit, or from BASE.
+check:
+	@python3 tests/check.py $(BASE)
+
 # The gate.
 test:
 	@python3 tests/gate.py
@@ -26,9 +30,14 @@ test:
 bench: target/bench/bench
 	@python3 bench/bench.py $(RUN) $<
 
-# It is proved before it is compiled.
+# It is proved before it is compiled; what is proved is said crate by crate, and all of it where a proof fails.
 $(LIBRARY).a: crates.txt $(SOURCES)
 	@mkdir -p $(@D)
+	@echo 'proving the library: from nothing it takes two minutes or so' >&2
+	@rt check tulpavice 2>&1 | awk -v all=target/prove.log '{ print > all } /^rt: ok/ { ok = 1 } \
+	    /^rt: .*( NOT PROVED| proved \([0-9])/ { sub(/^rt: /, "  "); print | "cat >&2"; fflush() } END { exit !ok }' \
+	    || { cat target/prove.log; exit 1; }
+	@echo 'compiling it' >&2
 	@rt staticlib tulpavice > target/staticlib.log 2>&1 || { cat target/staticlib.log; exit 1; }
 	@cp target/staticlib/libtulpavice.a $@
 

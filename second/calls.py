@@ -132,10 +132,23 @@ def resized(rng):
             changed = (data + rng.randbytes(9))[:size]
             yield changed
             yield max(size - 2, 0).to_bytes(2, "big")[:size] + changed[2:]
-    # a length that is right but for a multiple of 2^16, and counts beyond ten that fit their length
+    # a length that is right but for a multiple of 2^16
     yield flagged(rng, 3, 4) + bytes(2**16)
-    for count in 0, 1, MOST + 1, 100, 255:
-        yield HEAD.pack(11 + 4 * count, 1, 3, 5, 0, count) + bytes(4 * count)
+
+
+def runs():
+    """Whole runs: one byte over and over, and document 01's printed record of D5, of every size; its bytes that say most, at every value; every count."""
+    d5 = bytes.fromhex("001B01010000001500000000040000000000000000000000000000000050")
+    longer = d5 + bytes(60 - len(d5))
+    for size in range(61):
+        yield from (bytes(size), b"\xff" * size, longer[:size])
+        # the length made to fit: of the record, of one of version 2, and of one with a third flag
+        for changed in longer, with_byte(longer, 2, 2), with_byte(longer, 3, 5):
+            yield max(size - 2, 0).to_bytes(2, "big")[:size] + changed[2:size]
+    for place, value in itertools.product((0, 1, 2, 3, 12), range(256)):
+        yield with_byte(d5, place, value)
+    for count in range(256):
+        yield HEAD.pack(11 + 4 * count, 1, 1, 0, 0, count) + bytes(4 * count)
 
 
 def spoiled_record(rng, reasons):
@@ -164,7 +177,7 @@ def reads(rng):
     accepted = desk(), realistic(rng, 30_000), small(rng, 15_000), uniform(rng, 3_000, RANGE), extreme(rng, 12_000)
     valid = map(record, itertools.chain(*accepted))
     reasons = (spoiled_record(rng, reasons) for reasons in subsets((1, 2, 3, 4, 5, 6, 7)) for _ in range(60))
-    for data in itertools.chain(valid, edited(rng), resized(rng), reasons):
+    for data in itertools.chain(valid, edited(rng), resized(rng), runs(), reasons):
         yield line("read", data.hex() or "-")
 
 

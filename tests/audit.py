@@ -1,97 +1,37 @@
 """`python3 tests/audit.py [ROOT]` prints what is wrong with the tree where no proof would show it."""
 import re
 import sys
-from collections import namedtuple
 from pathlib import Path
 
-from edits import edited, edits_of, not_a_fact, read_edit
+from edits import edited, every_edit, fell_elsewhere, ill_formed, kit_edits, not_a_fact, own_edits
+from texts import EDGE, NAME, antt_files, brought, declared, functions, plain_antt, plain_rattle, texts
 
 ROOTS = "Prim mathlib native lib mir borrow denote".split()
 SOURCE = rf"(?:package\.)?(?:{'|'.join(ROOTS)})\."
-LIBRARY = set("""
-    _≡_ _≢_ _<_ _≤_ _>_ _≥_ _+_ _*_ _-_ _∸_ _/_ _%_ _^_ _≤ℤ_ _<ℤ_ _+ℤ_ _*ℤ_ _-ℤ_ negℤ natAbs pos negsuc
-    toZ ofZ SFits leb ltb eqb leZ ltZ eqZ not cond _&&_ _||_ true false Bool T ℕ ℤ suc zero
-    List [] _∷_ _++_ length take drop getD set map now _×_ _↔_ ¬_ ⊥ absurd Unit tt Dec refl
-    """.split())
-HEADER = ["entry", "definition", "promise", "must-fail edits"]
+PROMISES = "docs/PROMISES.md"
+ENTRIES = ["entry", "definition", "promise", "must-fail edits"]
+INNER = ["function", "requires", "promise", "must-fail edits"]
+EDIT_NAME = r"(?<![\w/.`*-])[a-z]\w*/\w+(?![\w/.*-])"
 
 
-def blank(text):
-    """As many spaces and the same lines, so that places stay what they were."""
-    return re.sub(r"[^\n]", " ", text)
+def promises(root):
+    """The text of docs/PROMISES.md."""
+    return (root / PROMISES).read_text("utf-8") if (root / PROMISES).exists() else ""
 
 
-def plain_rattle(text):
-    """The text without comments and literals; `"C"` stays, since it marks an export."""
-    spare = r"""//[^\n]*|/\*.*?\*/|b?"(?:\\.|[^"\\])*"|\bb'(?:\\[^'\n]{1,3}|\\'|[^'\\\n])'"""
-    return re.sub(spare, lambda m: m[0] if m[0] == '"C"' else blank(m[0]), text, flags=re.S)
-
-
-Function = namedtuple("Function", "place crate module type name public exported clauses")
-
-
-def closing(text, at):
-    """The place behind the brace that closes the one at `at`."""
-    depth = 0
-    for brace in re.compile(r"[{}]").finditer(text, at):
-        depth += 1 if brace[0] == "{" else -1
-        if not depth:
-            return brace.end()
-    return len(text)
-
-
-def clauses(text, at):
-    """The clauses behind a function's name, and the place of the body, or of the `;` of one without."""
-    found, depth = [], 0
-    token = re.compile(r"[()\[\]{};]|\b(?:requires|ensures|ghost)\b")
-    while seen := token.search(text, at):
-        at = seen.end()
-        if seen[0] in "()[]":
-            depth += 1 if seen[0] in "([" else -1
-        elif not depth and seen[0] in "{;}":
-            return found, seen.start()
-        elif not depth:
-            found.append(seen[0])
-            at = closing(text, text.find("{", at))
-    return found, len(text)
-
-
-ITEM = re.compile(r"""[{}]|\bimpl\b\s*(?:<[^>]*>\s*)?(?P<type>\w+)[^{};]*|"""
-                  r"""(?P<public>\bpub\s+)?(?:\bconst\s+)?(?P<c>\bextern\s*"C"\s*)?\bfn\s+(?P<name>\w+)""")
-
-
-def functions(root):
-    """The functions with a body, of every crate."""
-    found = []
-    for file in sorted(root.glob("crates/*/src/**/*.rt")):
-        crate, _, *module = file.relative_to(root / "crates").with_suffix("").parts
-        module = [part for part in module if part not in ("lib", "main", "mod")]
-        text, at, types, type_ = plain_rattle(file.read_text("utf-8")), 0, [], ""
-        while item := ITEM.search(text, at):
-            at = item.end()
-            if item[0] == "{":
-                types, type_ = types + [type_], ""
-            elif item[0] == "}":
-                types = types[:-1]
-            elif item["type"]:
-                type_ = item["type"]
-            else:
-                has, at = clauses(text, at)
-                place = f"{file.relative_to(root)}:{text.count(chr(10), 0, item.start('name')) + 1}"
-                if text[at:at + 1] == "{":
-                    found.append(Function(place, crate, module, (types or [""])[-1], item["name"],
-                                          bool(item["public"]), bool(item["c"]), has))
+def rows(root, header):
+    """Each function that a table of docs/PROMISES.md lists, with its row; a table is known by its head."""
+    found, inside = [], False
+    for line in promises(root).splitlines():
+        head = [cell.strip() for cell in line.strip().strip("|").split("|")] == header
+        inside = line.startswith("|") and (inside or head)
+        found += [(name, line) for name in re.findall(r"^\|\s*`(\w+(?:::\w+)+)`", line)] if inside else []
     return found
 
 
 def entries(root):
-    """The public entries that the table of docs/PROMISES.md lists."""
-    file, found, inside = root / "docs/PROMISES.md", [], False
-    for line in file.read_text("utf-8").splitlines() if file.exists() else ():
-        head = [cell.strip() for cell in line.strip().strip("|").split("|")] == HEADER
-        inside = line.startswith("|") and (inside or head)
-        found += re.findall(r"^\|\s*`(\w+(?:::\w+)+)`", line) if inside else []
-    return found
+    """The public entries that docs/PROMISES.md lists."""
+    return [entry for entry, _ in rows(root, ENTRIES)]
 
 
 def meant(entry, among):
@@ -117,98 +57,53 @@ def entries_ask_nothing(root):
 
 
 def entries_exist(root):
-    """docs/PROMISES.md lists public entries, and each is a public function of its crate."""
-    every, listed = functions(root), entries(root)
-    missing = [f"docs/PROMISES.md: no public function is `{entry}`" for entry in listed if not meant(entry, every)]
-    return missing if listed else [f"docs/PROMISES.md: no entry under a head | {' | '.join(HEADER)} |"]
+    """docs/PROMISES.md lists public entries, and each function that it lists is a public function of its crate."""
+    every, listed = functions(root), [name for name, _ in rows(root, ENTRIES) + rows(root, INNER)]
+    missing = [f"{PROMISES}: no public function is `{entry}`" for entry in listed if not meant(entry, every)]
+    return missing if entries(root) else [f"{PROMISES}: no entry under a head | {' | '.join(ENTRIES)} |"]
 
 
-def exports_are_entries(root):
-    """Every exported function is a public entry of docs/PROMISES.md."""
+def public_functions_are_listed(root):
+    """Every public function of a library stands in a table of docs/PROMISES.md, and every exported one among the entries."""
     every = functions(root)
-    listed = [f for entry in entries(root) for f in meant(entry, every)]
-    return [f"{f.place}: `{f.name}` is exported, and docs/PROMISES.md does not list it"
-            for f in every if f.exported and f not in listed]
+    open_, listed = ([f for name, _ in table for f in meant(name, every)] for table in (rows(root, ENTRIES), rows(root, ENTRIES) + rows(root, INNER)))
+    programs = {file.parent.parent.name for file in root.glob("crates/*/src/main.rt")}
+    return [f"{f.place}: `{f.name}` is public, and {PROMISES} does not list it"
+            for f in every if f.public and f.crate not in programs and f not in (open_ if f.exported else listed)]
+
+
+def promises_are_guarded(root):
+    """Of every function that docs/PROMISES.md lists its row names an edit that is refused in the function's own proof."""
+    every = functions(root)
+    refused = {edit.name: {f"{edit.crate}::{name}" for name in edit.refused.split()} for edit in own_edits(root) + kit_edits(root)}
+    return [f"{PROMISES}: no edit in the row of `{name}` is refused in its own proof" for name, row in rows(root, ENTRIES) + rows(root, INNER)
+            if meant(name, every) and not any(name in refused.get(edit, ()) for edit in re.findall(EDIT_NAME, row))]
 
 
 def exports_are_declared(root):
     """include/tulpavice.h declares every exported function, and no other."""
     file = root / "include/tulpavice.h"
     text = re.sub(r"/\*.*?\*/", "", file.read_text("utf-8"), flags=re.S) if file.exists() else ""
-    declared, exported = set(re.findall(r"\b(\w+)\(", text)), {f.name: f.place for f in functions(root) if f.exported}
-    return ([f"{exported[name]}: `{name}` is exported, and include/tulpavice.h does not declare it" for name in sorted(set(exported) - declared)]
-            + [f"include/tulpavice.h: no exported function is `{name}`" for name in sorted(declared - set(exported))])
+    declared_, exported = set(re.findall(r"\b(\w+)\(", text)), {f.name: f.place for f in functions(root) if f.exported}
+    return ([f"{exported[name]}: `{name}` is exported, and include/tulpavice.h does not declare it" for name in sorted(set(exported) - declared_)]
+            + [f"include/tulpavice.h: no exported function is `{name}`" for name in sorted(declared_ - set(exported))])
 
 
-# In antt, where a name may begin, and a name.
-EDGE = r"""(?<![^\s(){}.;,@"])"""
-NAME = r"""[^\s(){}.;,@"]+"""
-
-
-def plain_antt(text):
-    """The text without comments and quoted texts, and without the quotes of «escaped» names."""
-    outside = re.compile(r"\{-|" + EDGE + r'--[^\n]*|"(?:\\.|[^"\\\n])*"')
-    inside, out, at, depth = re.compile(r"\{-|-\}"), [], 0, 0
-    while mark := (inside if depth else outside).search(text, at):
-        out += [blank(text[at:mark.start()]) if depth else text[at:mark.start()], blank(mark[0])]
-        at, depth = mark.end(), depth + {"{-": 1, "-}": -1}.get(mark[0], 0)
-    return re.sub("[«»]", "", "".join(out) + ("" if depth else text[at:]))
-
-
-def antt_files(root):
-    """The place and the plain text of each file of definitions or proofs."""
-    for file in sorted(root.glob("crates/*/*/**/*.antt")):
-        yield file.relative_to(root), plain_antt(file.read_text("utf-8"))
-
-
-def brought(text, keyword):
-    """For each item that the `use` lines bring, its path and its name here; and the same for each module."""
-    use = EDGE + keyword + r"\s+([^\s{};,]+?)(?:\.\{([^}]*)\}|(?:\s+as\s+([^\s;]+))?(?=[\s;]|$))"
-    items, modules = [], []
-    for path, group, alias in re.findall(use, text):
-        for leaf in filter(str.strip, group.split(",")):
-            there, *renamed = leaf.split()
-            items.append((f"{path}.{there}", (renamed or there.split("."))[-1]))
-        modules += [] if group else [(path, alias or path.split(".")[-1])]
-    return items, modules
-
-
-def declared(text):
-    """The names that a text declares, but for the fields and constructors of a type, and modules."""
-    type_ = re.compile(rf"(?:pub\s+)?(?:data|record)\s+({NAME})")
-    signature = re.compile(rf"(?:(?:unfoldable|abbrev|pub|axiom)\s+)*({NAME})\s+(?:{{[^}}]*}}\s*)?:(?:\s|$)")
-    body = None  # how far the type is indented whose fields or constructors these are
-    for line in filter(str.strip, text.splitlines()):
-        deep = len(line) - len(line.lstrip())
-        if body is None or deep <= body:
-            head = type_.match(line, deep)
-            body = deep if head else None
-            if name := head or signature.match(line, deep):
-                yield name[1]
-    # a parameter that is spelled as an operator is read as one
-    for names in re.findall(rf"[({{]\s*((?:{NAME}\s+)+):\s", text):
-        yield from (name for name in names.split() if "_" in name)
-
-
-def texts(root):
-    """Each text of ours, with the keyword by which it brings names."""
-    for place, text in antt_files(root):
-        yield place, text, "use"
-    for file in sorted(root.glob("crates/*/src/**/*.rt")):
-        yield file.relative_to(root), plain_rattle(file.read_text("utf-8")), r"ghost\s+use"
+def librarys(path, name):
+    """Whether a path leads to a name in the library."""
+    return re.fullmatch(SOURCE + r"(?:.*\.)?" + re.escape(name), path)
 
 
 def symbols_mean_the_librarys(root):
-    """No text of ours gives a symbol of the library a meaning of its own."""
-    found = []
-    for place, text, keyword in texts(root):
-        items, modules = brought(text, keyword)
-        names = [name for path, name in items
-                 if name in LIBRARY and not re.fullmatch(SOURCE + r"(?:.*\.)?" + re.escape(name), path)]
+    """A symbol that a definition or a contract of ours has from the library has no other meaning in any text of ours."""
+    every, found = [(*text, *brought(*text[1:])) for text in texts(root)], []
+    guarded = {name for place, _, keyword, items, _ in every if keyword != "use" or "specs" in place.parts for path, name in items if librarys(path, name)}
+    for place, text, keyword, items, modules in every:
+        names = [name for path, name in items if name in guarded and not librarys(path, name)]
         # a module of ours under a library's name would stand in front of the library
         names += [name for path, name in modules if name in ROOTS and path not in (name, f"package.{name}")]
         if keyword == "use":
-            names += [name for name in declared(text) if name in LIBRARY]
+            names += [name for name in declared(text) if name in guarded]
             names += [name for name in re.findall(r"(?m)^\s*(?:pub\s+)?mod\s+(\S+)", text) if name in ROOTS]
         found += [f"{place}: it gives `{name}`, a name of the library's, a meaning of its own" for name in names]
     return found
@@ -246,51 +141,100 @@ def no_hole_is_left(root):
             for number, line in enumerate(text.splitlines(), 1) if hole.search(line)]
 
 
-def edits_are_refused_for_a_fact(root):
-    """Every must-fail edit was tried, and a fact was what failed."""
+def edits_can_be_planted(root):
+    """Every edit says what it plants and where it is refused, changes more than a proof, and finds the text that it changes."""
     found = []
-    for crate, label, file in edits_of(root):
-        log = root / "target/must-fail" / crate / label / ".log"
+    for edit in every_edit(root):
         try:
-            _, places = edited(root / "crates" / crate, read_edit(file)[2])
-            why = not_a_fact(log.read_text("utf-8", "replace"), places) if log.exists() else "it has no log"
+            edited(root, edit)
         except ValueError as error:
-            why = str(error)
-        found += [f"{file.relative_to(root)}: {why}"] if why else []
+            found.append(f"{edit.file.relative_to(root)}: {error}")
     return found
 
 
-def edits_say_what_they_plant(root):
-    """Every must-fail edit begins with a comment that says which wrong answer it plants."""
-    return [f"{file.relative_to(root)}: it does not begin with a comment"
-            for _, _, file in edits_of(root) if not read_edit(file)[0]]
-
-
 def edits_differ(root):
-    """No two must-fail edits of a crate make the same change."""
-    seen, found = {}, []
-    for crate, label, file in edits_of(root):
+    """No two edits that a crate must refuse make the same change, and no two have one name."""
+    made, named, found = {}, {}, []
+    for edit in every_edit(root):
+        place = edit.file.relative_to(root)
+        if named.setdefault(edit.name, place) != place:
+            found.append(f"{place}: it is named as {named[edit.name]}")
         try:
-            made = crate, tuple(sorted(edited(root / "crates" / crate, read_edit(file)[2])[0].items()))
+            change = edit.crate, tuple(sorted(edited(root, edit)[0].items()))
         except ValueError:
             continue
-        if seen.setdefault(made, label) != label:
-            found.append(f"{file.relative_to(root)}: it is the same edit as {seen[made]}")
+        if made.setdefault(change, place) != place:
+            found.append(f"{place}: it is the same edit as {made[change]}")
     return found
 
 
 def edits_are_listed(root):
-    """docs/PROMISES.md lists every edit that must be refused, by the proofs or by the compiler."""
-    file = root / "docs/PROMISES.md"
-    listed = set(re.findall(r"[\w/]+", file.read_text("utf-8"))) if file.exists() else set()
-    labels = [(f"{crate}/{label}", edit) for crate, label, edit in edits_of(root)]
-    labels += [(edit.stem, edit) for folder in ("must-fail", "must-not-compile") for edit in sorted((root / folder).glob("*.edit"))]
-    return [f"{edit.relative_to(root)}: docs/PROMISES.md does not list it" for label, edit in labels if label not in listed]
+    """docs/PROMISES.md lists every edit that must be refused, and no other."""
+    listed, edits = set(re.findall(EDIT_NAME, promises(root))), {edit.name: edit.file for edit in every_edit(root)}
+    crates = {file.name for file in root.glob("crates/*")}
+    lost = [name for name in listed - set(edits) if name.split("/")[0] in crates and name.split("/")[1] not in ("src", "specs", "proofs")]
+    return ([f"{edits[name].relative_to(root)}: {PROMISES} does not list it" for name in sorted(set(edits) - listed)]
+            + [f"{PROMISES}: there is no edit {name}" for name in sorted(lost)])
 
 
-RULES = [promises_are_made, entries_ask_nothing, entries_exist, exports_are_entries, exports_are_declared,
-         symbols_mean_the_librarys, imports_are_used, no_hole_is_left, edits_are_refused_for_a_fact, edits_say_what_they_plant, edits_differ,
-         edits_are_listed]
+# Words of the language and of its commands, which are no thing of this tree.
+LANGUAGE = set("rt make gcc requires ensures match i64".split())
+
+
+def things(root):
+    """Every name that a page may speak of: crates, functions, types, constants, and what definitions and proofs declare."""
+    names = {file.name for file in root.glob("crates/*")} | {f.name for f in functions(root)}
+    for place, text, keyword in texts(root):
+        names |= {place.stem} | {name for _, name in sum(brought(text, keyword), [])}
+        if keyword == "use":
+            names |= set(declared(text)) | set(re.findall(rf"(?m)^\s+(?:pub\s+)?({NAME})\s*:", text)) | set(re.findall(rf"(?:data|record)\s+({NAME})", text))
+        else:
+            names |= set(re.findall(r"\b(?:struct|enum|const)\s+(\w+)", text)) | set(re.findall(r"(?m)^\s+(?:pub )?([A-Za-z]\w*)[,(:]", text))
+    return names
+
+
+def named_things_are_there(root):
+    """Each law, function, type and file that the README or docs/PROMISES.md names is there."""
+    known, found = things(root) | LANGUAGE, []
+    files = {str(file.relative_to(root)) for file in root.glob("**/*") if ".git" not in file.parts and "target" not in file.parts[len(root.parts):]}
+    ends = {path[at.end():] for path in files for at in re.finditer(r"^|/", path)}
+    for page in ("README.md", PROMISES):
+        text = (root / page).read_text("utf-8") if (root / page).exists() else ""
+        # what is fenced, and what is quoted with a blank in it, is a command or an example
+        text = re.sub(r"^ *```.*?^ *```|`[^`\n]*`", lambda m: "" if re.search(r"\s", m[0]) else m[0], text, flags=re.M | re.S)
+        for name in sorted(set(re.findall(r"(?<![\w/.-])[\w+./-]*\w\.(?:antt|rt|py|c|h|mk|md|tsv|edit)\b", text))):
+            if name not in ends and not re.search(r"^target/|CRATE|LABEL", name):
+                found.append(f"{page}: there is no file {name}")
+        for quoted in sorted(set(re.findall(r"`([A-Za-z][\w-]*(?:::\w+)*|\w+/[\w/-]*)`", text))):
+            names = [quoted.strip("/")] if "/" in quoted else quoted.split("::")
+            if not all(name in known or name in ends for name in names) and not quoted.startswith("target/"):
+                found.append(f"{page}: there is no `{quoted}`")
+    return found
+
+
+RULES = [promises_are_made, entries_ask_nothing, entries_exist, public_functions_are_listed, promises_are_guarded, exports_are_declared,
+         symbols_mean_the_librarys, imports_are_used, no_hole_is_left, edits_can_be_planted, edits_differ, edits_are_listed, named_things_are_there]
+
+
+def kit_edits_are_refused_for_a_fact(root):
+    """Every edit that the kit plants was tried, and a fact fell in each proof that it names."""
+    found = []
+    for edit in kit_edits(root):
+        where = root / "target/must-fail" / edit.name
+        try:
+            places = edited(root, edit)[1]
+            log = (where / ".log").read_text("utf-8", "replace").replace(f"{where.resolve()}/", f"/crates/{edit.crate}/")
+            why = not_a_fact(log, places) or fell_elsewhere(edit, log)
+        except FileNotFoundError:
+            why = "it has no log"
+        except ValueError as error:
+            why = str(error)
+        found += [f"{edit.file.relative_to(root)}: {why}"] if why else []
+    return found
+
+
+# What can be seen only where `rt ci` has just run.
+AFTER_PROOFS = [kit_edits_are_refused_for_a_fact]
 
 
 def main():

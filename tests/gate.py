@@ -1,83 +1,158 @@
-"""The gate: layout, `rt ci`, then the tests of this folder. The last line is `N passed, M failed`."""
+"""The gate: layout, `rt ci`, every edit that must be refused, and the tests of this folder. The last line is `N passed, M failed`.
+
+`gate.py tests FOLDER` runs the tests of one folder. What needs nothing proved (tests/own) runs beside the proofs, and the tests of what is proved
+beside the edits, so that no core is idle for long; what runs beside is printed when it has ended.
+"""
+import io
 import os
 import re
 import subprocess
 import sys
+import tempfile
+import time
 import traceback
 import unittest
 from pathlib import Path
 
 ROOT = Path(__file__).resolve().parent.parent
-TALLY = re.compile(rb"(\d+) passed, (\d+) failed")
+TALLY = re.compile(r"(\d+) passed, (\d+) failed")
+# Tests that may be skipped, where a machine or a checkout lacks what they need; any other that is skipped fails.
+MAY_BE_SKIPPED = {
+    "test_library.Library.test_from_python",  # the library can be loaded on x86-64 alone
+    "test_notebook.Example.test_readings_are_those_of_document_000",  # the papers do not always lie beside a checkout
+    "test_notebook.Usage.test_answers_that_cannot_be_written",  # not every system has a full device
+    "test_table.Table.test_data_is_document_004",
+}
+# Where time goes: what a step's line says of it, and the seconds that it names.
+SPENT = (
+    ("edits from nothing", re.compile(r"^rt: must-fail .*?(\d+) s\)$")),
+    ("proving", re.compile(r"^rt: \w+ (?:proved|NOT PROVED) \((?:exit \d+, )?(\d+) s\)$")),
+    (None, re.compile(r"^spent (.+): (\d+) s$")),
+)
 
 
-def run(*words):
-    """Runs a command, passes on what it writes, and returns its exit status and its last line."""
-    print("gate:", *words, flush=True)
-    last = b""
-    env = dict(os.environ, PYTHONUTF8="1", PYTHONDONTWRITEBYTECODE="1")
-    try:
-        with subprocess.Popen(words, cwd=ROOT, env=env, stdin=subprocess.DEVNULL,
-                              stdout=subprocess.PIPE, stderr=subprocess.STDOUT) as child:
-            for last in child.stdout:
-                sys.stdout.buffer.write(last)
-                sys.stdout.buffer.flush()
-    except OSError as error:
-        print("gate:", error, flush=True)
-        return 127, b""
-    return child.returncode, last.strip()
+class Step:
+    """A command that is begun, and counted when it has ended. `beside` others it is printed at the end."""
+
+    def __init__(self, *words, beside=False):
+        self.words, self.lines = words, []
+        self.kept = tempfile.TemporaryFile("w+", encoding="utf-8", errors="replace") if beside else None
+        env = dict(os.environ, PYTHONUTF8="1", PYTHONDONTWRITEBYTECODE="1")
+        try:
+            self.child = subprocess.Popen(words, cwd=ROOT, env=env, stdin=subprocess.DEVNULL, stdout=self.kept or subprocess.PIPE,
+                                          stderr=subprocess.STDOUT, encoding="utf-8", errors="replace")
+        except OSError as error:
+            self.child, self.kept = None, io.StringIO(f"gate: {error}\n")
+
+    def ended(self):
+        """Passes on what the command writes, and waits for its end: its exit status."""
+        print("gate:", *self.words, flush=True)
+        if self.child and self.kept:
+            self.child.wait()
+            self.kept.seek(0)
+        for line in self.kept or self.child.stdout:
+            sys.stdout.write(line)
+            sys.stdout.flush()
+            self.lines.append(line)
+        return self.child.wait() if self.child else 127
+
+    def one(self):
+        """The command is one test."""
+        return (0, 1) if self.ended() else (1, 0)
+
+    def many(self):
+        """The command ends in a tally. A bad exit or no tally is a failure, whatever was counted."""
+        status = self.ended()
+        tally = TALLY.fullmatch(self.lines[-1].strip()) if self.lines else None
+        passed, failed = map(int, tally.groups()) if tally else (0, 1)
+        return passed, failed if status == 0 else max(failed, 1)
 
 
-def one(*words):
-    """A command that is one test."""
-    status, _ = run(*words)
-    return (1, 0) if status == 0 else (0, 1)
-
-
-def many(*words):
-    """A command that ends in a tally. A bad exit or no tally is a failure, whatever was counted."""
-    status, last = run(*words)
-    tally = TALLY.fullmatch(last)
-    passed, failed = map(int, tally.groups()) if tally else (0, 1)
-    return passed, failed if status == 0 else max(failed, 1)
+def spent(lines):
+    """The seconds that some lines name, by what they went to."""
+    found = {}
+    for line in lines:
+        for name, pattern in SPENT:
+            if match := pattern.search(line):
+                *kind, seconds = match.groups()
+                found[name or kind[0]] = found.get(name or kind[0], 0) + int(seconds)
+                break
+    return found
 
 
 class Result(unittest.TextTestResult):
-    """A test passes where all of it passes; one with several parts that fail is one that fails."""
+    """A test passes where all of it passes; one with several parts that fail is one that fails, and so is one that is skipped without leave."""
 
-    passed = 0
+    def __init__(self, *words):
+        super().__init__(*words)
+        self.passed, self.began, self.compared = 0, 0, 0
+
+    def startTest(self, test):
+        super().startTest(test)
+        self.began = time.monotonic()
+
+    def stopTest(self, test):
+        super().stopTest(test)
+        if test.id().startswith("test_second."):
+            self.compared += time.monotonic() - self.began
 
     def addSuccess(self, test):
         super().addSuccess(test)
         self.passed += 1
 
     def counts(self):
+        skipped = {test.id() for test, _ in self.skipped} - MAY_BE_SKIPPED
+        expected = {test.id() for test, _ in self.expectedFailures}
+        for test in sorted(skipped | expected):
+            print(f"gate: {test} is skipped, or expected to fail, and is not one that may be")
         bad = {getattr(test, "test_case", test).id() for test, _ in self.failures + self.errors}
-        return self.passed + len(self.expectedFailures), len(bad) + len(self.unexpectedSuccesses)
+        return self.passed, len(bad | skipped | expected | {test.id() for test in self.unexpectedSuccesses})
 
 
-def tests():
-    """Runs tests/test_*.py. A file that cannot be imported is a test that fails; so is a lack of tests."""
-    suite = unittest.TestLoader().discover(str(ROOT / "tests"), "test_*.py")
+def run(suite, stream=sys.stdout):
+    """Runs a suite; one without a test fails."""
     if not suite.countTestCases():
         print("gate: no test was found")
         return 0, 1
-    return unittest.TextTestRunner(sys.stdout, verbosity=2, resultclass=Result).run(suite).counts()
+    began = time.monotonic()
+    result = unittest.TextTestRunner(stream, verbosity=2, resultclass=Result).run(suite)
+    seconds = time.monotonic() - began
+    print(f"spent comparison: {result.compared:.0f} s\nspent other tests: {seconds - result.compared:.0f} s")
+    return result.counts()
+
+
+def tests(folder):
+    """Runs the test_*.py of a folder. A file that cannot be imported is a test that fails."""
+    sys.path.insert(0, str(ROOT / "tests"))
+    return run(unittest.TestLoader().discover(str(ROOT / folder), "test_*.py"))
 
 
 def gate():
-    """The three steps, each run whatever became of those before it; their sum goes to target/tally."""
-    # the tests have a process of their own, since code that they load may end it
-    steps = one("rt", "fmt", "--check"), many("rt", "ci"), many(sys.executable, "-u", __file__, "tests")
-    passed, failed = map(sum, zip(*steps))
+    """Every step, each run whatever became of those before it; their sum goes to target/tally."""
+    began, python = time.monotonic(), (sys.executable, "-u")
+    layout = Step("rt", "fmt", "--check")
+    steps, counts = [layout], [layout.one()]
+    for words, others in (
+        (("rt", "ci"), (*python, __file__, "tests", "tests/own")),
+        # the tests have a process of their own, since code that they load may end it
+        ((*python, "tests/planted.py"), (*python, __file__, "tests", "tests")),
+    ):
+        pair = Step(*words), Step(*others, beside=True)
+        counts += [step.many() for step in pair]
+        steps += pair
+    passed, failed = map(sum, zip(*counts))
     (ROOT / "target").mkdir(exist_ok=True)
     (ROOT / "target/tally").write_text(f"{passed} passed, {failed} failed\n")
+    print("\ngate: where the time went, in seconds of one core")
+    for kind, seconds in spent(line for step in steps for line in step.lines).items():
+        print(f"  {kind:20} {seconds:5}")
+    print(f"gate: {time.monotonic() - began:.0f} s on the clock")
     return passed, failed
 
 
 if __name__ == "__main__":
     try:
-        passed, failed = tests() if sys.argv[1:] == ["tests"] else gate()
+        passed, failed = tests(sys.argv[2]) if sys.argv[1:2] == ["tests"] else gate()
     except BaseException:
         traceback.print_exc(file=sys.stdout)
         passed, failed = 0, 1

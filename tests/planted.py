@@ -1,8 +1,9 @@
-"""Wrong rules, planted in one crate, that the laws of another must refuse.
+"""Plants each edit that must be refused, tries it, and says of each whether it is; the last line is `N passed, M failed`.
 
-An edit is a file must-fail/LABEL.edit at the root: a comment that says which wrong rule it plants,
-`check: CRATE` that must refuse it, `refused: FILE..` in each of which a law falls, and rt's own lines
-`file:`, `old:`, `new:`, with paths from the root. `python3 tests/planted.py [LABEL..]` tries them.
+`python3 tests/planted.py [NAME..]` tries every edit of must-fail/ and must-not-compile/, or those named `CRATE/LABEL`; those that the kit plants by
+itself are tried too where they are named. An edit is planted in a copy of the crates and proved over an incremental folder, which holds what is
+proved of the tree as it stands: so only what the edit reaches is proved again. That folder is laid anew for each edit, from the libraries
+that are proved under target/, and no edit sees what another left.
 """
 import os
 import re
@@ -10,106 +11,222 @@ import shutil
 import subprocess
 import sys
 import tempfile
-from contextlib import contextmanager
+import threading
+import time
+from collections import namedtuple
+from concurrent.futures import ThreadPoolExecutor
 from pathlib import Path
 
-from edits import edited, not_a_fact, read_edit, refusals
+from edits import bodies, edited, every_edit, fell_elsewhere, kind_edits, not_a_fact, own_edits, refused_in, touched, without
 
 ROOT = Path(__file__).resolve().parent.parent
+WORKERS = 2
+
+Trial = namedtuple("Trial", "edit why log seconds")
 
 
-def edits(root):
-    """The edits of a repository."""
-    return sorted((root / "must-fail").glob("*.edit"))
+def dependencies(root):
+    """Of each listed crate, those that its line names."""
+    return {name: words.split() for name, words in re.findall(r"^(\w+):(.*)", (root / "crates.txt").read_text("utf-8"), re.M)}
 
 
-def reached(root, crate):
-    """A crate and all that it depends on, of those that crates.txt lists."""
-    listed = dict(re.findall(r"^(\w+):(.*)", (root / "crates.txt").read_text("utf-8"), re.M))
+def reached(listed, crate):
+    """A crate and all that it depends on, of those that are listed."""
     found, todo = set(), [crate]
     while todo:
         name = todo.pop()
         if name in listed and name not in found:
             found.add(name)
-            todo += listed[name].split()
+            todo += listed[name]
     return found
 
 
-def copy(root, to, crate):
-    """Copies the crates, with what is proved of one and of all that it reads, so that only what an edit reaches is proved again."""
-    shutil.copy(root / "crates.txt", to)
-    shutil.copytree(root / "crates", to / "crates", symlinks=True)
-    for name in reached(root, crate):
-        part = f"target/rlib/{name}.rlib"
-        if (root / part).exists():
-            shutil.copytree(root / part, to / part, symlinks=True)
-        if (root / "target/stamp" / name).exists():
-            (to / "target/stamp").mkdir(parents=True, exist_ok=True)
-            shutil.copy(root / "target/stamp" / name, to / "target/stamp")
+def passed_as_source(listed, crate, edits):
+    """The crates that a check reads as they are edited: the edited ones that it depends on, and those between."""
+    return sorted(name for name in reached(listed, crate) - {crate} if edits & reached(listed, name))
 
 
-def check(crate, where):
-    """Runs `rt check` in a folder: its exit status, what it writes, and the crate's log."""
-    # one job each, since two edits are tried at a time
-    done = subprocess.run(["rt", "check", crate], cwd=where, env=dict(os.environ, RT_JOBS="1"), stdin=subprocess.DEVNULL,
-                          stdout=subprocess.PIPE, stderr=subprocess.STDOUT, encoding="utf-8", errors="replace")
-    log = where / "target/log" / f"{crate}.say"
-    return done.returncode, done.stdout, log.read_text("utf-8", "replace") if log.exists() else ""
+class Proved:
+    """What is proved of a tree as it stands, in incremental folders that each edit starts from."""
+
+    def __init__(self, root, folder):
+        self.root, self.folder, self.locks, self.lock = root, Path(folder).resolve(), {}, threading.Lock()
+        self.listed, self.nothing = dependencies(root), self.folder / "nothing"
+        self.nothing.mkdir()
+
+    def seed(self, name, where):
+        """Puts what is proved of a library into an incremental folder: what a check there keeps, and what a library carries, are the same files."""
+        library = self.root / f"target/rlib/{name}.rlib"
+        if (library / "format").exists() and (library / "toolchain/checked").exists():
+            build = re.search(r"^rattle-build (\S+)", (library / "format").read_text("utf-8"), re.M)[1].replace("/", "_")
+            shutil.copytree(library / "toolchain/checked", where / build, dirs_exist_ok=True)
+
+    def of(self, bench, crate, sources):
+        """The folder for a check of a crate with some others as source. It is made once, by a check without an edit, which must pass."""
+        where = self.folder / "-".join([crate, *sources])
+        with self.lock:
+            lock = self.locks.setdefault(where, threading.Lock())
+        with lock:
+            if not where.exists():
+                begun = where.with_name(where.name + ".begun")
+                begun.mkdir()
+                for name in [crate, *sources]:
+                    self.seed(name, begun)
+                status, log = bench.check(crate, sources, begun)
+                if status or not re.search(r"^logic=proved ", log, re.M):
+                    raise ValueError(f"{crate} is not proved without an edit:\n{log[-2000:]}")
+                shutil.copytree(bench.kept(crate), where)
+        return where
 
 
-def judged(crate, laws, places, where):
-    """Why the check of a copy, edited at `places`, is not a refusal by each of the laws; empty where it is."""
-    status, said, log = check(crate, where)
-    for other in sorted({place.split("/")[1] for place in places} - {crate}):
-        if not re.search(rf"^rt: {other} proved \(", said, re.M):
-            return f"{other}, the edited crate, is itself not proved:\n{said[-2000:]}"
-    if re.search(rf"^rt: {crate} proved \(", said, re.M):
-        return f"NOT REFUSED: {crate} is still proved"
-    if status != 1 or not re.search(rf"^rt: {crate} NOT PROVED \(exit 1,", said, re.M):
-        return f"{crate} was not refused by the prover (exit {status}):\n{said[-2000:]}"
+class Bench:
+    """A copy of the crates and of what is proved of them, where one edit at a time is planted."""
+
+    def __init__(self, proved):
+        self.proved, self.where = proved, Path(tempfile.mkdtemp(dir=proved.folder)).resolve()
+        shutil.copytree(proved.root / "crates", self.where / "crates", symlinks=True)
+        shutil.copy(proved.root / "crates.txt", self.where)
+        for part in ("rlib", "stamp"):
+            if (proved.root / "target" / part).exists():
+                shutil.copytree(proved.root / "target" / part, self.where / "target" / part, symlinks=True)
+
+    def kept(self, crate):
+        """Where a check keeps what it has proved."""
+        return self.where / "target/inc" / crate
+
+    def check(self, crate, sources, start):
+        """Checks a crate over a copy of an incremental folder: the exit status, and what is said."""
+        shutil.rmtree(self.kept(crate), ignore_errors=True)
+        shutil.copytree(start, self.kept(crate))
+        # a library that comes as source is no dependency that would be proved first; no other line changes, or what is proved would not count
+        line = f"{crate}: {' '.join(name for name in self.proved.listed[crate] if name not in sources)}" if sources else r"\g<0>"
+        crates = (self.proved.root / "crates.txt").read_text("utf-8")
+        (self.where / "crates.txt").write_text(re.sub(rf"^{crate}:.*", line, crates, flags=re.M), "utf-8")
+        words = [word for name in sources for word in ("--lib", f"{name}=crates/{name}/src/lib.rt")]
+        done = subprocess.run(["rt", "dev", crate, *words], cwd=self.where, env=dict(os.environ, RT_JOBS="1"), stdin=subprocess.DEVNULL,
+                              stdout=subprocess.PIPE, stderr=subprocess.STDOUT, encoding="utf-8", errors="replace")
+        if again := re.search(r"^rt: (\w+) (?:proved \(\d|NOT PROVED)", done.stdout, re.M):
+            raise ValueError(f"{again[1]}, which {crate} depends on, was not proved before:\n{done.stdout[-2000:]}")
+        return done.returncode, done.stdout
+
+    def plant(self, edit, judge):
+        """Tries one edit: why it is not refused as it must be, or nothing; and what was said."""
+        listed, texts = self.proved.listed, {}
+        try:
+            texts, places = edited(self.proved.root, edit)
+            if edit.crate not in listed or not touched(edit) <= reached(listed, edit.crate):
+                raise ValueError(f"{edit.crate} does not depend on what is edited, or crates.txt does not list it")
+            sources = passed_as_source(listed, edit.crate, touched(edit))
+            start = self.proved.of(self, edit.crate, sources) if judge is by_the_prover else self.proved.nothing
+            for path, text in texts.items():
+                (self.where / path).write_text(text, "utf-8")
+            status, log = self.check(edit.crate, sources, start)
+        except ValueError as error:
+            return f"BAD EDIT: {error}", ""
+        finally:
+            for path in texts:
+                shutil.copy(self.proved.root / path, self.where / path)
+        return judge(edit, status, log, places), log
+
+    def plant_all(self, edits, judge):
+        """Tries edits of different functions of a crate together; each alone, where together not every one is refused as it must be."""
+        if len(edits) > 1:
+            names = [{(edit.crate, name) for name in edit.refused.split()} for edit in edits]
+            every = set().union(*names)
+            together = edits[0]._replace(name=f"{edits[0].crate} together", refused=" ".join(edit.refused for edit in edits),
+                                         changes=[change for edit in edits for change in edit.changes])
+            why, log = self.plant(together, judge)
+            logs = [without(log, every - own) for own in names]
+            if not why and refused_in(log) == every and not any(not_a_fact(log) for log in logs):
+                return [("", log) for log in logs]
+        return [self.plant(edit, judge) for edit in edits]
+
+
+def groups(root, edits):
+    """Edits that can be planted together. What one function's body says reaches no other function's proof, so those that change nothing but the
+    bodies and proofs of different functions of a crate, and are refused there, are told apart by the proof in which a fact falls."""
+    found = []
+    for edit in edits:
+        try:
+            edited(root, edit)
+            own = bodies(root, edit)
+        except ValueError:
+            own = set()
+        own = own if own >= set(edit.refused.split()) else set()
+        fitting = (group for group in found if own and group[0] and group[1][0].crate == edit.crate and not group[0] & own)
+        if group := next(fitting, None):
+            group[0].update(own)
+            group[1].append(edit)
+        else:
+            found.append((own, [edit]))
+    # the longest first, so that no core is idle at the end
+    return sorted((group for _, group in found), key=len, reverse=True)
+
+
+def by_the_prover(edit, status, log, places):
+    """Why what is said of an edit is not that a fact falls in each proof that it names; empty where it is."""
+    if re.search(r"^logic=proved ", log, re.M) or status == 0:
+        return f"NOT REFUSED: {edit.crate} is still proved"
+    if status != 1 or not re.search(r"^logic=not-proved", log, re.M):
+        return f"BAD EDIT: it did not reach the prover (exit {status}):\n{log[-2000:]}"
+    for other in sorted(touched(edit) - {edit.crate}):
+        if found := re.search(rf"^\S*/crates/{other}/\S*: error: .*|^fn {other}::\S+: (?:no|not|could).*", log, re.M):
+            return f"{other}, the edited crate, is itself not proved: {found[0][:300]}"
     if why := not_a_fact(log, places):
-        return f"{crate} is not refused for a fact: {why}"
-    files = {os.path.relpath(place.split(":")[0], where / "crates" / crate) for place in refusals(log)}
-    for law in laws:
-        if not any(law in Path(file).with_suffix("").parts for file in files):
-            return f"what is refused is in {', '.join(sorted(files))}, and not in {law}"
-    return ""
+        return f"it is not refused for a fact: {why}"
+    return fell_elsewhere(edit, log)
 
 
-@contextmanager
-def edited_copy(root, changes, crate):
-    """A copy for a crate's check with the changes made, and their places; ValueError where one cannot be made."""
-    with tempfile.TemporaryDirectory() as folder:
-        where = Path(folder).resolve()
-        copy(root, where, crate)
-        texts, places = edited(where, changes)
-        for path, text in texts.items():
-            (where / path).write_text(text, "utf-8")
-        yield where, places
+def by_the_compiler(edit, status, log, places):
+    """Why what is said of an edit is not the one mixing of kinds that it names; empty where it is."""
+    said = re.findall(r"^\S*?/(crates/\S*?:\d+:)(?:\d+:)? (error.*)", log, re.M)
+    if status == 1 and said == [(places[0], f"error[mismatched-types]: {edit.refused}")] and "logic=" not in log:
+        return ""
+    return f"the compiler does not refuse it in these words, and for nothing else (exit {status}):\n{log[-2000:]}"
 
 
-def plant(root, file):
-    """Tries one edit: why it is not refused as it must be; empty where it is."""
-    comment, words, changes = read_edit(file)
-    if not (comment and words.get("check") and words.get("refused")):
-        return "it wants a comment that says what it plants, a line `check: CRATE` and a line `refused: FILE..`"
-    if not all(re.match(r"crates/\w+/(?:src|specs)/", path) for path, _, _ in changes):
-        return "BAD EDIT: it may change only src/ and specs/ of a crate"
-    try:
-        with edited_copy(root, changes, words["check"]) as (where, places):
-            return judged(words["check"], words["refused"].split(), places, where)
-    except ValueError as error:
-        return f"BAD EDIT: {error}"
+def tried(root, edits, workers=WORKERS):
+    """Tries edits of a tree that is proved, some at a time: a trial of each."""
+    kinds = {edit.file for edit in kind_edits(root)}
+    with tempfile.TemporaryDirectory() as folder, ThreadPoolExecutor(workers) as pool:
+        proved, own = Proved(root, folder), threading.local()
+
+        def trials(group):
+            begun = time.monotonic()
+            if not hasattr(own, "bench"):
+                own.bench = Bench(proved)
+            said = own.bench.plant_all(group, by_the_compiler if group[0].file in kinds else by_the_prover)
+            seconds = (time.monotonic() - begun) / len(group)
+            return [Trial(edit, *each, seconds) for edit, each in zip(group, said)]
+
+        for group in pool.map(trials, groups(root, edits)):
+            yield from group
+
+
+def shown(edits):
+    """Tries edits, says of each what came of it, and keeps what was said of it: how many passed, and how many did not."""
+    failed, spent = 0, {}
+    for edit, why, log, seconds in tried(ROOT, edits):
+        print(f"edit {edit.name}: {why or 'refused, as it must be'} ({seconds:.1f} s)", flush=True)
+        kept = ROOT / "target/planted" / f"{edit.name}.log"
+        kept.parent.mkdir(parents=True, exist_ok=True)
+        kept.write_text(log, "utf-8")
+        failed += bool(why)
+        kind = "definitions" if any("/specs/" in change.path for change in edit.changes) else "code"
+        spent[kind] = spent.get(kind, 0) + seconds
+    for kind, seconds in sorted(spent.items()):
+        print(f"spent edits of {kind}: {seconds:.0f} s")
+    return len(edits) - failed, failed
 
 
 def main():
-    bad = False
-    for file in edits(ROOT):
-        if file.stem in sys.argv[1:] or not sys.argv[1:]:
-            why = plant(ROOT, file)
-            print(f"{file.stem}: {why or 'refused, as it must be'}", flush=True)
-            bad = bad or bool(why)
-    sys.exit(bad)
+    known = {edit.name: edit for edit in every_edit(ROOT)}
+    for name in sys.argv[1:]:
+        if name not in known:
+            sys.exit(f"there is no edit {name}")
+    passed, failed = shown([known[name] for name in sys.argv[1:]] or own_edits(ROOT) + kind_edits(ROOT))
+    print(f"{passed} passed, {failed} failed", flush=True)
+    sys.exit(failed != 0 or passed == 0)
 
 
 if __name__ == "__main__":

@@ -40,31 +40,3 @@ pub(crate) fn mixtures() {
     looked_up(b"SMA", 2, 13000, 4000);
     looked_up(b"all others", 3, 13000, 4000);
 }
-
-// Refusal 5: a minimum or a target that puts a limit out of range.
-pub(crate) fn offsets() {
-    words(b"\nMinimum and target\n");
-    looked_up(b"minimum 497000", 0, 497000, 0);
-    looked_up(b"minimum 497001", 0, 497001, 0);
-    looked_up(b"minimum -499300", 0, -499300, 0);
-    looked_up(b"minimum -499301", 0, -499301, 0);
-    looked_up(b"minimum 2147483647", 0, 2147483647, 0);
-    looked_up(b"minimum -2147483648", 0, -2147483648, 0);
-    looked_up(b"target 498650", 0, 0, 498650);
-    looked_up(b"target 498651", 0, 0, 498651);
-    looked_up(b"target -498650", 0, 0, -498650);
-    looked_up(b"target -498651", 0, 0, -498651);
-    looked_up(b"target 2147483647", 0, 0, 2147483647);
-    looked_up(b"target -2147483648", 0, 0, -2147483648);
-}
-
-// Refusal 9: a mixture number not 0 to 3. Where 5 applies too, it is given, being lower.
-pub(crate) fn refusals() {
-    words(b"\nMixture numbers\n");
-    looked_up(b"-1", -1, 13000, 4000);
-    looked_up(b"4", 4, 13000, 4000);
-    looked_up(b"9223372036854775807", 9223372036854775807, 13000, 4000);
-    looked_up(b"-9223372036854775808", -9223372036854775808, 13000, 4000);
-    looked_up(b"4, and minimum 497001", 4, 497001, 4000);
-    looked_up(b"-1, and target -498651", -1, 13000, -498651);
-}

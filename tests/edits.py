@@ -30,7 +30,7 @@ def read_edit(file, name, crate, folder=""):
             refused = rest.strip()
         elif not path and line.strip(" #-/"):
             comment.append(line)
-    return Edit(name, crate, file, " ".join(comment), refused, changes)
+    return Edit(name, crate, file, " ".join(comment), refused, tuple(changes))
 
 
 def edits_in(root, folder):

@@ -102,7 +102,7 @@ class Bench:
         line = f"{crate}: {' '.join(name for name in self.proved.listed[crate] if name not in sources)}" if sources else r"\g<0>"
         crates = (self.proved.root / "crates.txt").read_text("utf-8")
         (self.where / "crates.txt").write_text(re.sub(rf"^{crate}:.*", line, crates, flags=re.M), "utf-8")
-        words = [word for name in sources for word in ("--lib", f"{name}=crates/{name}/src/lib.rt")]
+        words = [word for name in sources for word in ("--lib", f"{name}={self.where}/crates/{name}/src/lib.rt")]
         done = subprocess.run(["rt", "dev", crate, *words], cwd=self.where, env=dict(os.environ, RT_JOBS="1"), stdin=subprocess.DEVNULL,
                               stdout=subprocess.PIPE, stderr=subprocess.STDOUT, encoding="utf-8", errors="replace")
         if again := re.search(r"^rt: (\w+) (?:proved \(\d|NOT PROVED)", done.stdout, re.M):
@@ -133,34 +133,41 @@ class Bench:
         if len(edits) > 1:
             names = [{(edit.crate, name) for name in edit.refused.split()} for edit in edits]
             every = set().union(*names)
-            together = edits[0]._replace(name=f"{edits[0].crate} together", refused=" ".join(edit.refused for edit in edits),
-                                         changes=[change for edit in edits for change in edit.changes])
-            why, log = self.plant(together, judge)
+            why, log = self.plant(joined(edits), judge)
             logs = [without(log, every - own) for own in names]
             if not why and refused_in(log) == every and not any(not_a_fact(log) for log in logs):
                 return [("", log) for log in logs]
         return [self.plant(edit, judge) for edit in edits]
 
 
+def joined(edits):
+    """One edit that makes all changes of some."""
+    return edits[0]._replace(refused=" ".join(edit.refused for edit in edits), changes=tuple(change for edit in edits for change in edit.changes))
+
+
+def can_be_made(root, edit):
+    try:
+        return bool(edited(root, edit))
+    except ValueError:
+        return False
+
+
 def groups(root, edits):
-    """Edits that can be planted together. What one function's body says reaches no other function's proof, so those that change nothing but the
+    """Edits that can be planted together. What one function's body says reaches no other function's proof; so those that change nothing but the
     bodies and proofs of different functions of a crate, and are refused there, are told apart by the proof in which a fact falls."""
-    found = []
+    found, own = [], {}
     for edit in edits:
-        try:
-            edited(root, edit)
-            own = bodies(root, edit)
-        except ValueError:
-            own = set()
-        own = own if own >= set(edit.refused.split()) else set()
-        fitting = (group for group in found if own and group[0] and group[1][0].crate == edit.crate and not group[0] & own)
-        if group := next(fitting, None):
-            group[0].update(own)
-            group[1].append(edit)
+        functions = bodies(root, edit) if can_be_made(root, edit) else set()
+        own[edit] = functions if functions >= set(edit.refused.split()) else set()
+        for group in found:
+            apart = not own[edit] & set().union(*(own[other] for other in group))
+            if own[edit] and own[group[0]] and group[0].crate == edit.crate and apart and can_be_made(root, joined([*group, edit])):
+                group.append(edit)
+                break
         else:
-            found.append((own, [edit]))
+            found.append([edit])
     # the longest first, so that no core is idle at the end
-    return sorted((group for _, group in found), key=len, reverse=True)
+    return sorted(found, key=len, reverse=True)
 
 
 def by_the_prover(edit, status, log, places):

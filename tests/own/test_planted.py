@@ -5,7 +5,7 @@ import unittest
 from pathlib import Path
 
 import planted
-from edits import read_edit
+from edits import read_edit, refused_in
 
 TREE = {
     "crates.txt": "rules:\nlaws: rules\nsums: rules\n",
@@ -84,12 +84,25 @@ file: crates/rules/specs/Row.antt
 old: n + 3
 new: n + 4
 """
-# An edit of code, refused in the function's own proof.
-CODE = """# the row is that of the reading after
+# An edit of code, refused in the function's own proof; and one of a function that has no file of its own.
+CODE = """# every row is the seventh
 refused: row
 file: crates/sums/src/lib.rt
 old:     after(n)
-new:     after(n + 1)
+new:     let r = after(n); 7
+"""
+AFTER = """# four for three
+refused: after
+file: crates/sums/src/lib.rt
+old:     n + 3
+new:     n + 4
+"""
+# An edit that no promise sees.
+GOOD = """# three and n
+refused: after
+file: crates/sums/src/lib.rt
+old:     n + 3
+new:     3 + n
 """
 
 
@@ -109,14 +122,14 @@ class Trial(unittest.TestCase):
         cls.addClassCleanup(cls.kept.cleanup)
         cls.bench = planted.Bench(planted.Proved(cls.root, cls.kept.name))
 
-    def edit(self, crate, text, *changes):
+    def edit(self, crate, text, *changes, label="toy"):
         """An edit that a crate must refuse, with some of its lines changed."""
         for old, new in changes:
             self.assertEqual(text.count(old), 1)
             text = text.replace(old, new)
-        file = self.root / "toy.edit"
+        file = self.root / f"{label}.edit"
         file.write_text(text, "utf-8")
-        return read_edit(file, f"{crate}/toy", crate)
+        return read_edit(file, f"{crate}/{label}", crate)
 
     def says(self, words, crate, text, *changes, judge=planted.by_the_prover):
         """What the trial says of it; no words, no complaint."""
@@ -127,10 +140,10 @@ class Trial(unittest.TestCase):
         self.says("", "laws", RULE)
 
     def test_wrong_code_is_refused(self):
-        self.says("", "sums", CODE, ("old:     after(n)", "old:     n + 3"), ("new:     after(n + 1)", "new:     n + 4"), ("refused: row", "refused: after"))
+        self.says("", "sums", CODE)
 
-    def test_wrong_code_is_refused_in_its_own_proof(self):
-        self.says("", "sums", CODE, ("    after(n)\n", "    after(n)\n"), ("new:     after(n + 1)", "new:     { let r = after(n); 7 }"))
+    def test_wrong_code_that_the_prover_proves_itself_is_refused(self):
+        self.says("", "sums", AFTER)
 
     def test_what_no_law_sees_is_not_refused(self):
         self.says("NOT REFUSED", "laws", RULE, ("old: n + 3", "old: 2 * n"), ("new: n + 4", "new: 3 * n"))
@@ -139,7 +152,7 @@ class Trial(unittest.TestCase):
         self.says("NOT REFUSED", "laws", RULE, ("old: n + 3", "old: of a reading"), ("new: n + 4", "new: of any reading"))
 
     def test_code_that_is_as_good_is_not_refused(self):
-        self.says("NOT REFUSED", "sums", CODE, ("old:     after(n)", "old:     n + 3"), ("new:     after(n + 1)", "new:     3 + n"))
+        self.says("NOT REFUSED", "sums", GOOD)
 
     def test_a_text_that_is_not_there(self):
         self.says("BAD EDIT", "laws", RULE, ("old: n + 3", "old: n + 9"))
@@ -170,13 +183,13 @@ class Trial(unittest.TestCase):
                   ("new: n + 4", "new: seven = own"))
 
     def test_code_that_does_not_compile(self):
-        self.says("BAD EDIT: it did not reach the prover", "sums", CODE, ("new:     after(n + 1)", "new:     after(n"))
+        self.says("BAD EDIT: it did not reach the prover", "sums", CODE, ("new:     let r = after(n); 7", "new:     after(n"))
 
     def test_code_that_mixes_types(self):
-        self.says("BAD EDIT: it did not reach the prover", "sums", CODE, ("new:     after(n + 1)", "new:     after(n) as u64"))
+        self.says("BAD EDIT: it did not reach the prover", "sums", CODE, ("new:     let r = after(n); 7", "new:     after(n) as u64"))
 
     def test_code_that_its_proof_does_not_fit(self):
-        self.says("the proof file does not fit", "sums", CODE, ("new:     after(n + 1)", "new:     n + 4"))
+        self.says("the proof file does not fit", "sums", CODE, ("new:     let r = after(n); 7", "new:     n + 4"))
 
     def test_a_law_of_another_file(self):
         self.says("and not Record", "laws", RULE, ("refused: Desk", "refused: Record"))
@@ -185,7 +198,7 @@ class Trial(unittest.TestCase):
         self.says("and not Record", "laws", RULE, ("refused: Desk", "refused: Desk Record"))
 
     def test_another_function(self):
-        self.says("and not row", "sums", CODE, ("old:     after(n)", "old:     n + 3"), ("new:     after(n + 1)", "new:     n + 4"))
+        self.says("and not row", "sums", AFTER, ("refused: after", "refused: row"))
 
     def test_a_crate_that_is_not_there(self):
         self.says("crates.txt does not list it", "lores", RULE)
@@ -200,10 +213,40 @@ class Trial(unittest.TestCase):
         self.says("BAD EDIT", "laws", RULE, ("refused: Desk\n", ""))
 
     def test_a_mixing_of_kinds(self):
-        mixing = CODE.replace("refused: row", "refused: expected `u32`, found `u64`").replace("after(n + 1)", "after(n as u64)")
+        mixing = CODE.replace("refused: row", "refused: expected `u32`, found `u64`").replace("let r = after(n); 7", "after(n as u64)")
         self.says("", "sums", mixing, judge=planted.by_the_compiler)
         self.says("the compiler does not refuse it", "sums", mixing, ("found `u64`", "found `u16`"), judge=planted.by_the_compiler)
         self.says("the compiler does not refuse it", "sums", mixing, ("after(n as u64)", "after(n)"), judge=planted.by_the_compiler)
+
+    def grouped(self, *texts):
+        """The groups in which edits of code are planted, by their places among them."""
+        edits = [self.edit("sums", text, label=str(at)) for at, text in enumerate(texts)]
+        return [[edits.index(edit) for edit in group] for group in planted.groups(self.root, edits)], edits
+
+    def test_edits_of_two_functions_are_planted_together(self):
+        groups, edits = self.grouped(CODE, AFTER)
+        self.assertEqual(groups, [[0, 1]])
+        said = self.bench.plant_all(edits, planted.by_the_prover)
+        self.assertEqual([why for why, _ in said], ["", ""])
+        self.assertEqual([refused_in(log) for _, log in said], [{("sums", "row")}, {("sums", "after")}])
+
+    def test_an_edit_that_is_not_refused_is_told_among_others(self):
+        groups, edits = self.grouped(CODE, GOOD)
+        self.assertEqual(groups, [[0, 1]])
+        (first, _), (second, _) = self.bench.plant_all(edits, planted.by_the_prover)
+        self.assertEqual(first, "")
+        self.assertIn("NOT REFUSED", second)
+
+    def test_an_edit_that_does_not_compile_is_told_among_others(self):
+        (first, _), (second, _) = self.bench.plant_all(self.grouped(CODE, AFTER.replace("n + 4", "m + 4"))[1], planted.by_the_prover)
+        self.assertEqual(first, "")
+        self.assertIn("did not reach the prover", second)
+
+    def test_edits_that_are_planted_alone(self):
+        """Of one function; whose text the other has twice; of a promise; refused elsewhere than they change; that bring a function."""
+        for other in (AFTER, CODE.replace("; 7", ";     n + 3"), CODE.replace("    after(n)", "⌜ r ≡ row n ⌝"),
+                      CODE.replace("refused: row", "refused: after row"), CODE.replace("; 7", "; 7 } fn more(n: u32) -> u32 { 7")):
+            self.assertEqual(self.grouped(other, GOOD)[0], [[0], [1]], other)
 
     def test_what_an_edit_leaves_does_not_reach_the_next(self):
         """A law that is proved of the wrong rule is left in the folder; then all that is there is spoiled."""

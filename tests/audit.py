@@ -3,8 +3,8 @@ import re
 import sys
 from pathlib import Path
 
-from edits import edited, every_edit, fell_elsewhere, ill_formed, kit_edits, not_a_fact, own_edits
-from texts import EDGE, NAME, antt_files, brought, declared, functions, plain_antt, plain_rattle, texts
+from edits import edited, every_edit, fell_elsewhere, kit_edits, not_a_fact, own_edits
+from texts import EDGE, NAME, antt_files, brought, declared, functions, plain_rattle, texts
 
 ROOTS = "Prim mathlib native lib mir borrow denote".split()
 SOURCE = rf"(?:package\.)?(?:{'|'.join(ROOTS)})\."

@@ -23,12 +23,15 @@ MAY_BE_SKIPPED = {
     "test_notebook.Usage.test_answers_that_cannot_be_written",  # not every system has a full device
     "test_table.Table.test_data_is_document_004",
 }
-# Where time goes: what a step's line says of it, and the seconds that it names.
-SPENT = (
-    ("edits from nothing", re.compile(r"^rt: must-fail .*?(\d+) s\)$")),
-    ("proving", re.compile(r"^rt: \w+ (?:proved|NOT PROVED) \((?:exit \d+, )?(\d+) s\)$")),
-    (None, re.compile(r"^spent (.+): (\d+) s$")),
-)
+# Where time goes, and the lines of a step that name its seconds.
+SPENT = {
+    "proving": r"^rt: \w+ (?:proved|NOT PROVED) \((?:exit \d+, )?(\d+) s\)$",
+    "edits, from nothing": r"^rt: must-fail .*?(\d+) s\)$",
+    "edits of code": r"^spent edits of code: (\d+) s$",
+    "edits of definitions": r"^spent edits of definitions: (\d+) s$",
+    "comparison": r"^spent comparison: (\d+) s$",
+    "the rest": r"^spent the rest: (\d+) s$",
+}
 
 
 class Step:
@@ -70,14 +73,8 @@ class Step:
 
 def spent(lines):
     """The seconds that some lines name, by what they went to."""
-    found = {}
-    for line in lines:
-        for name, pattern in SPENT:
-            if match := pattern.search(line):
-                *kind, seconds = match.groups()
-                found[name or kind[0]] = found.get(name or kind[0], 0) + int(seconds)
-                break
-    return found
+    said = "".join(lines)
+    return {kind: sum(map(int, re.findall(pattern, said, re.M))) for kind, pattern in SPENT.items()}
 
 
 class Result(unittest.TextTestResult):
@@ -117,7 +114,7 @@ def run(suite, stream=sys.stdout):
     began = time.monotonic()
     result = unittest.TextTestRunner(stream, verbosity=2, resultclass=Result).run(suite)
     seconds = time.monotonic() - began
-    print(f"spent comparison: {result.compared:.0f} s\nspent other tests: {seconds - result.compared:.0f} s")
+    print(f"spent comparison: {result.compared:.0f} s\nspent the rest: {seconds - result.compared:.0f} s")
     return result.counts()
 
 
@@ -143,10 +140,10 @@ def gate():
     passed, failed = map(sum, zip(*counts))
     (ROOT / "target").mkdir(exist_ok=True)
     (ROOT / "target/tally").write_text(f"{passed} passed, {failed} failed\n")
-    print("\ngate: where the time went, in seconds of one core")
+    print("\ngate: where the time went, in seconds, two or three side by side")
     for kind, seconds in spent(line for step in steps for line in step.lines).items():
         print(f"  {kind:20} {seconds:5}")
-    print(f"gate: {time.monotonic() - began:.0f} s on the clock")
+    print(f"  {'on the clock':20} {time.monotonic() - began:5.0f}\n")
     return passed, failed
 
 

@@ -69,6 +69,7 @@ class Proved:
         with lock:
             if not where.exists():
                 begun = where.with_name(where.name + ".begun")
+                shutil.rmtree(begun, ignore_errors=True)
                 begun.mkdir()
                 for name in [crate, *sources]:
                     self.seed(name, begun)

@@ -76,8 +76,10 @@ class Steps(unittest.TestCase):
     def test_where_the_time_went(self):
         lines = ["rt: laws proved (4 s)\n", "rt: desk proved (20 s)\n", "rt: desk ran as nobody, and wrote what its file 'stdout' has (0 s)\n",
                  "rt: must-fail quality/divide_by_n: refused, as it must be (first at proofs/row/admits/Proof.antt:77:57; 12 s)\n",
-                 "rt: rules proved (unchanged since it was last proved)\n", "spent edits of code: 30 s\n", "spent other tests: 5 s\n", "spent other tests: 6 s\n"]
-        self.assertEqual(gate.spent(lines), {"proving": 24, "edits from nothing": 12, "edits of code": 30, "other tests": 11})
+                 "rt: printed NOT PROVED (exit 1, 7 s)\n", "rt: rules proved (unchanged since it was last proved)\n", "spent edits of code: 30 s\n",
+                 "spent comparison: 0 s\n", "spent the rest: 5 s\n", "spent comparison: 9 s\n", "spent the rest: 6 s\n"]
+        self.assertEqual(gate.spent(lines), {"proving": 31, "edits, from nothing": 12, "edits of code": 30, "edits of definitions": 0,
+                                             "comparison": 9, "the rest": 11})
 
 
 if __name__ == "__main__":

@@ -18,7 +18,7 @@ fn admits(n: u64, v: u64, d: i64, k: u64) -> bool
 
 // The row: the largest that is admitted. Whatever is below an admitted row is admitted too, so the range is halved.
 // Inner: a side keeps the bounds.
-pub(crate) fn row(n: u64, v: u64, d: i64) -> u64
+pub fn row(n: u64, v: u64, d: i64) -> u64
     requires { ⌜ SpreadInBounds n v × DistanceInBounds d ⌝ }
     ensures { λ r. ⌜ r ≡ nearest n (pos v) d ⌝ }
 {

@@ -69,7 +69,7 @@ fn times(n: u32, z: Thousandths) -> i64
 }
 
 // The side of an upper limit: 10,000 where it is absent. Inner: an evaluation keeps the bounds.
-pub(crate) fn upper_side(a: Totals, v: u64, upper: Limit) -> Hundredths
+pub fn upper_side(a: Totals, v: u64, upper: Limit) -> Hundredths
     requires { ⌜ Bounded a × (pos v ≡ spread a) × (out-of-range upper ≡ false) ⌝ }
     ensures { λ r. ⌜ r .0 ≡ upper-side nearest table-106-1 a upper ⌝ }
 {
@@ -80,7 +80,7 @@ pub(crate) fn upper_side(a: Totals, v: u64, upper: Limit) -> Hundredths
 }
 
 // The side of a lower limit. Inner, as the other.
-pub(crate) fn lower_side(a: Totals, v: u64, lower: Limit) -> Hundredths
+pub fn lower_side(a: Totals, v: u64, lower: Limit) -> Hundredths
     requires { ⌜ Bounded a × (pos v ≡ spread a) × (out-of-range lower ≡ false) ⌝ }
     ensures { λ r. ⌜ r .0 ≡ lower-side nearest table-106-1 a lower ⌝ }
 {

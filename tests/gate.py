@@ -130,7 +130,8 @@ def gate():
     layout = Step("rt", "fmt", "--check")
     steps, counts = [layout], [layout.one()]
     for words, others in (
-        (("rt", "ci"), (*python, __file__, "tests", "tests/own")),
+        # what is beside the proofs takes the core that they leave idle
+        (("rt", "ci"), ("nice", *python, __file__, "tests", "tests/own")),
         # the tests have a process of their own, since code that they load may end it
         ((*python, "tests/planted.py"), (*python, __file__, "tests", "tests")),
     ):

@@ -20,7 +20,8 @@ from pathlib import Path
 from edits import bodies, edited, every_edit, fell_elsewhere, kind_edits, not_a_fact, own_edits, refused_in, touched, without
 
 ROOT = Path(__file__).resolve().parent.parent
-WORKERS = 2
+# As many as the kit's own jobs.
+WORKERS = min(4, os.cpu_count() or 1)
 
 Trial = namedtuple("Trial", "edit why log seconds")
 
@@ -136,7 +137,9 @@ class Bench:
             every = set().union(*names)
             why, log = self.plant(joined(edits), judge)
             logs = [without(log, every - own) for own in names]
-            if not why and refused_in(log) == every and not any(not_a_fact(log) for log in logs):
+            # no change adds a line, so that the places of each edit are those that it has alone
+            facts = not any(not_a_fact(log, edited(self.proved.root, edit)[1]) for edit, log in zip(edits, logs))
+            if not why and refused_in(log) == every and facts:
                 return [("", log) for log in logs]
         return [self.plant(edit, judge) for edit in edits]
 

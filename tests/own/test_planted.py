@@ -237,6 +237,14 @@ class Trial(unittest.TestCase):
         self.assertEqual(first, "")
         self.assertIn("NOT REFUSED", second)
 
+    def test_a_proof_that_is_spoiled_is_told_among_others(self):
+        spoiled = CODE.replace("; 7", "; r") + "file: crates/sums/proofs/row/Proof.antt\nold: returns c = c .after .ensures\nnew: returns c = c .before .pre\n"
+        groups, edits = self.grouped(AFTER, spoiled)
+        self.assertEqual(groups, [[0, 1]])
+        (first, _), (second, _) = self.bench.plant_all(edits, planted.by_the_prover)
+        self.assertEqual(first, "")
+        self.assertIn("the edited text is itself ill-formed", second)
+
     def test_an_edit_that_does_not_compile_is_told_among_others(self):
         (first, _), (second, _) = self.bench.plant_all(self.grouped(CODE, AFTER.replace("n + 4", "m + 4"))[1], planted.by_the_prover)
         self.assertEqual(first, "")

@@ -18,7 +18,7 @@ run: $(HOST)/notebook
 # The library for C, and for whoever loads it.
 lib: $(LIBRARY).a $(LIBRARY).so
 
-# The edit loop: proves what changed, audits the tree, and tries the edits of what differs from the last commit, or from BASE.
+# The edit loop: audits the tree, proves what changed, and tries the edits of what differs from the last commit, or from BASE.
 check:
 	@python3 tests/check.py $(BASE)
 

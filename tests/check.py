@@ -1,4 +1,4 @@
-"""The edit loop: `python3 tests/check.py [REVISION]` proves what changed and what stands on it, audits the tree, and tries the edits of what differs
+"""The edit loop: `python3 tests/check.py [REVISION]` audits the tree, proves what changed and what stands on it, and tries the edits of what differs
 from a revision, from the last commit where none is named. The verdict is the gate's."""
 import re
 import subprocess
@@ -40,14 +40,14 @@ def proved():
 
 def main():
     changed = differing(*(sys.argv[1:] or ["HEAD"]))
-    good = subprocess.run(["rt", "fmt", "--check"], cwd=ROOT).returncode == 0
-    good = proved() and good
     complaints = [f"{rule.__name__}: {text}" for rule in audit.RULES for text in rule(ROOT)]
     print("\n".join(complaints or ["the audit has no complaint"]), flush=True)
+    good = subprocess.run(["rt", "fmt", "--check"], cwd=ROOT).returncode == 0 and not complaints
+    good = proved() and good
     edits = [edit for edit in every_edit(ROOT) if concerned(edit, changed)]
     print(f"{len(edits)} edits have to do with what changed", flush=True)
-    refused = planted.shown(edits)[1] == 0 if edits else True
-    sys.exit(not (good and refused and not complaints))
+    good = (not edits or planted.shown(edits)[1] == 0) and good
+    sys.exit(not good)
 
 
 if __name__ == "__main__":

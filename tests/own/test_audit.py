@@ -144,6 +144,8 @@ logic=not-proved
 MEAN, FIRST = "    ensures count {", "pub fn first(self) -> u8\n        ensures {"
 ENSURES = TREE[LIB][TREE[LIB].index(MEAN):TREE[LIB].index("{\n    if n ==")]
 LAW = f"{HERE}proofs/Laws.antt:6:7: error: `law`: computed as far as they go, the two types differ"
+MEAN_ROW = "| `toy::toy_mean` | `Sums`, in toy/specs | it is the mean | toy/one_more, toy/two_more |\n"
+INNER_HEAD = "\n| function | requires | promise | must-fail edits |\n|---|---|---|---|\n"
 AUTO = f"note: {HERE}src/lib.rt:27:1: it is not proved that what the function ensures holds when it returns\n"
 FAULTS = {
     "promises_are_made": {
@@ -165,8 +167,7 @@ FAULTS = {
     "public_functions_are_listed": {
         "an_entry": (PROMISES, "| `toy::Pair::first` |", "| toy::Pair::first |"),
         "an_inner_function": (PROMISES, "| `toy::inner::kept` |", "| toy::inner::kept |"),
-        "an_export_among_the_inner": (PROMISES, "| `toy::toy_mean` | `Sums`, in toy/specs | it is the mean | toy/one_more, toy/two_more |\n\n| function | requires | promise | must-fail edits |\n|---|---|---|---|\n",
-                                      "\n| function | requires | promise | must-fail edits |\n|---|---|---|---|\n| `toy::toy_mean` | `Sums`, in toy/specs | it is the mean | toy/one_more, toy/two_more |\n"),
+        "an_export_among_the_inner": (PROMISES, MEAN_ROW + INNER_HEAD, INNER_HEAD + MEAN_ROW),
         "a_new_function": (INNER, "pub(crate) fn quiet(x: u8) -> u8 {", "pub fn quiet(x: u8) -> u8 ensures { λ r. ⌜ r ≡ x ⌝ } {"),
         "a_constant_function": (INNER, "pub(crate) fn quiet(x: u8) -> u8 {", "pub const fn quiet(x: u8) -> u8 ensures { λ r. ⌜ r ≡ x ⌝ } {"),
         "a_deep_module": ("crates/toy/src/a/mod.rt", None, "pub fn deep() ensures { λ _. ⌜ 1 ≡ 1 ⌝ } {}\n"),

@@ -8,6 +8,8 @@ from texts import EDGE, NAME, antt_files, brought, declared, functions, plain_ra
 
 ROOTS = "Prim mathlib native lib mir borrow denote".split()
 SOURCE = rf"(?:package\.)?(?:{'|'.join(ROOTS)})\."
+# What a contract has with no import, and what its reader would take for the library's though nothing here brings it.
+FAMILIAR = set("now _×_ ⊥ ¬_ absurd Unit tt T Dec refl _≢_ _>_ _≥_ _∸_ negsuc eqZ set".split())
 PROMISES = "docs/PROMISES.md"
 ENTRIES = ["entry", "definition", "promise", "must-fail edits"]
 INNER = ["function", "requires", "promise", "must-fail edits"]
@@ -95,9 +97,10 @@ def librarys(path, name):
 
 
 def symbols_mean_the_librarys(root):
-    """A symbol that a definition or a contract of ours has from the library has no other meaning in any text of ours."""
+    """A symbol that a definition or a contract of ours has from the library, or seems to have, has no other meaning in any text of ours."""
     every, found = [(*text, *brought(*text[1:])) for text in texts(root)], []
-    guarded = {name for place, _, keyword, items, _ in every if keyword != "use" or "specs" in place.parts for path, name in items if librarys(path, name)}
+    guarded = FAMILIAR | {name for place, _, keyword, items, _ in every if keyword != "use" or "specs" in place.parts
+                          for path, name in items if librarys(path, name)}
     for place, text, keyword, items, modules in every:
         names = [name for path, name in items if name in guarded and not librarys(path, name)]
         # a module of ours under a library's name would stand in front of the library
@@ -178,7 +181,7 @@ def edits_are_listed(root):
 
 
 # Words of the language and of its commands, which are no thing of this tree.
-LANGUAGE = set("rt make gcc requires ensures match i64".split())
+LANGUAGE = {"rt", "requires", "ensures", "i64"}
 
 
 def things(root):

@@ -58,9 +58,11 @@ class Proved:
     def seed(self, name, where):
         """Puts what is proved of a library into an incremental folder: what a check there keeps, and what a library carries, are the same files."""
         library = self.root / f"target/rlib/{name}.rlib"
-        if (library / "format").exists() and (library / "toolchain/checked").exists():
-            build = re.search(r"^rattle-build (\S+)", (library / "format").read_text("utf-8"), re.M)[1].replace("/", "_")
-            shutil.copytree(library / "toolchain/checked", where / build, dirs_exist_ok=True)
+        head, checked = library / "format", library / "toolchain/checked"
+        build = re.search(r"^rattle-build (\S+)", head.read_text("utf-8"), re.M) if head.exists() and checked.exists() else None
+        # without it the first check proves the crate from nothing, and is the longer for it
+        if build:
+            shutil.copytree(checked, where / build[1].replace("/", "_"), dirs_exist_ok=True)
 
     def of(self, bench, crate, sources):
         """The folder for a check of a crate with some others as source. It is made once, by a check without an edit, which must pass."""

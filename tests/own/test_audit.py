@@ -188,6 +188,8 @@ FAULTS = {
         "an_escaped_name": (SPEC, "what? :", "«replicate» : ℕ → ℕ\nwhat? :"),
         "in_a_section": (PROOF, "  pub law :", "  _<_ : ℕ → ℕ → Type 0\n  pub law :"),
         "a_parameter": (PROOF, "(n : ℕ)", "(_<_ n : ℕ)"),
+        "what_a_contract_has_anyway": (SPEC, "what? :", "pub _×_ : Type 0 → Type 0\nwhat? :"),
+        "what_nothing_brings": (SPEC, "what? :", "pub _≥_ : ℕ → ℕ → Type 0\nwhat? :"),
         "a_type": (SPEC, "pub record Sums", "pub record ℕ : Type 0 where\n  pub U : ℕ\n\npub record Sums"),
         "a_data_type": (SPEC, "pub record Sums", "pub data Sums : Type 0 where\n\npub data List"),
         "renamed": (SPEC, "getD as at", "getD as at, take as replicate"),

@@ -245,6 +245,13 @@ class Trial(unittest.TestCase):
         self.assertEqual(first, "")
         self.assertIn("the edited text is itself ill-formed", second)
 
+    def test_an_edit_of_a_caller_that_is_not_refused_is_told_beside_one_of_what_it_calls(self):
+        groups, edits = self.grouped(AFTER, CODE.replace("; 7", "; r"))
+        self.assertEqual(groups, [[0, 1]])
+        (first, _), (second, _) = self.bench.plant_all(edits, planted.by_the_prover)
+        self.assertEqual(first, "")
+        self.assertIn("NOT REFUSED", second)
+
     def test_an_edit_that_does_not_compile_is_told_among_others(self):
         (first, _), (second, _) = self.bench.plant_all(self.grouped(CODE, AFTER.replace("n + 4", "m + 4"))[1], planted.by_the_prover)
         self.assertEqual(first, "")
@@ -255,6 +262,12 @@ class Trial(unittest.TestCase):
         for other in (AFTER, CODE.replace("; 7", ";     n + 3"), CODE.replace("    after(n)", "⌜ r ≡ row n ⌝"),
                       CODE.replace("refused: row", "refused: after row"), CODE.replace("; 7", "; 7 } fn more(n: u32) -> u32 { 7")):
             self.assertEqual(self.grouped(other, GOOD)[0], [[0], [1]], other)
+
+    def test_edits_are_planted_alone_where_a_contract_asks_what_code_returns(self):
+        source = self.root / "crates/sums/src/lib.rt"
+        self.addCleanup(source.write_text, TREE["crates/sums/src/lib.rt"], "utf-8")
+        source.write_text(TREE["crates/sums/src/lib.rt"] + "// ⟦after(n)⟧\n", "utf-8")
+        self.assertEqual(self.grouped(CODE, AFTER)[0], [[0], [1]])
 
     def test_what_an_edit_leaves_does_not_reach_the_next(self):
         """A law that is proved of the wrong rule is left in the folder; then all that is there is spoiled."""

@@ -13,10 +13,10 @@ use Rattle.rules.specs.declared.Outcome.{Outcome}
 use Rattle.rules.specs.declared.Percentages.{Percentages}
 use Rattle.rules.specs.Said.{answers, checked}
 use Rattle.rules.specs.Lot.{Lot, lot-of, most}
-use Rattle.rules.specs.Table.{Table}
+use Rattle.rules.specs.Table.{Found, entries}
 use Rattle.rules.specs.Percent.{Rule}
 use Rattle.rules.specs.Refusals.{allowed, count-case, out-of-range, any-out, range-case, unlimited-case, crossed, crossed-case}
-use Rattle.rules.specs.Meets.{readings-meet, lot-meets, evaluation-meets}
+use Rattle.rules.specs.Meets.{readings-meet, lot-meets, counted-meets, evaluation-meets}
 use Rattle.rules.specs.Answers.{outcome-said}
 use Rattle.rules.specs.Entries.{percentages, evaluated}
 use Rattle.laws.specs.Bounds.{Accepted}
@@ -46,8 +46,7 @@ pub record LotAccepted (lot : Lot) : Type 0 where
   pub near : any-out (lot .readings) ≡ false
   pub uncrossed : crossed (lot .upper) (lot .lower) ≡ false
 
-pub lot-accepted : (lot : Lot) → checked (evaluation-meets lot) ≡ answers tt → LotAccepted lot
-unfolding evaluation-meets
+pub lot-accepted : (lot : Lot) → checked (counted-meets lot) ≡ answers tt → LotAccepted lot
 lot-accepted lot e =
     let upper : Limit = lot .upper in
     let lower : Limit = lot .lower in
@@ -71,8 +70,8 @@ pub lent-readings : {upper lower : Limit} {xs : List ℤ} → LotAccepted (lot-o
 lent-readings h = record { least = h .least; few = h .few; near = h .near }
 
 -- An evaluation that is answered has the lot's percentages, and its lot is not refused.
-pub answered : (rule : Rule) (table : Table) (lot : Lot) (p : Percentages) → evaluated rule table lot ≡ answers p → LotAccepted lot × (percentages rule table lot ≡ p)
-unfolding evaluated
-answered rule table lot p e =
-    let r = ruled-answers (evaluation-meets lot) (percentages rule table lot) p e in
+pub answered : (rule : Rule) (found : Found) (lot : Lot) (p : Percentages) → evaluated rule found lot ≡ answers p → LotAccepted lot × (percentages rule (entries found) lot ≡ p)
+unfolding evaluated evaluation-meets
+answered rule found lot p e =
+    let r = ruled-answers (evaluation-meets lot) (percentages rule (entries found) lot) p e in
     (lot-accepted lot (r .0), r .1)

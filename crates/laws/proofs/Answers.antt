@@ -1,10 +1,12 @@
--- Each answer is read as the paper's number and values in one way only, so a promise of what is said determines the answer.
+-- Each answer is read as the paper's refusal or values in one way only, so a promise of what is said determines the answer; and a refusal is
+-- known by its number.
 use mathlib.Core.Path.{_≡_, refl, sym, ap, _∙_}
 use mathlib.Core.List.{[], _∷_}
 use Prim.Native.Nat.{ℕ, _-_}
 use lib.ListN.{getD}
 use Rattle.rules.specs.declared.Refusal.{Refusal}
 use Rattle.rules.specs.declared.Refusal.the-variants.{Size, Version, Flags, Count, Range, Unlimited, Crossed, Room, Number}
+use Rattle.rules.specs.declared.TotalsAnswer.{TotalsAnswer}
 use Rattle.rules.specs.declared.MeanAnswer.{MeanAnswer}
 use Rattle.rules.specs.declared.DeviationAnswer.{DeviationAnswer}
 use Rattle.rules.specs.declared.Evaluation.{Evaluation}
@@ -15,7 +17,7 @@ use Rattle.rules.specs.declared.WriteAnswer.{WriteAnswer}
 use Rattle.rules.specs.declared.RowAnswer.{RowAnswer}
 use Rattle.rules.specs.Said.{Said, refused, answers}
 use Rattle.rules.specs.Refusals.{number-of}
-use Rattle.rules.specs.Answers.{mean-said, deviation-said, evaluation-said, pay-said, mixture-said, outcome-said, ReadSaid, read-said, write-said, row-said}
+use Rattle.rules.specs.Answers.{totals-said, mean-said, deviation-said, evaluation-said, pay-said, mixture-said, outcome-said, ReadSaid, read-said, write-said, row-said}
 
 -- Two that are read alike are one.
 abbrev pub Injective : {A B : Type 0} → (A → B) → Type 0
@@ -46,48 +48,53 @@ number-injective = read-back number-of refusal refusal-back
 
 -- An answer that is one of two, values or a refusal, is read back by its two cases.
 abbrev read : {A X : Type 0} → (A → X) → (Refusal → X) → Said A → X
-read value other (refused k) = other (refusal k)
+read value other (refused r) = other r
 read value other (answers a) = value a
+
+pub totals-injective : Injective totals-said
+totals-injective =
+    read-back totals-said (read TotalsAnswer.Answers TotalsAnswer.Refused)
+    (elim [ TotalsAnswer.Answers a ↦ refl | TotalsAnswer.Refused r ↦ refl ])
 
 pub mean-injective : Injective mean-said
 mean-injective =
     read-back mean-said (read MeanAnswer.Answers MeanAnswer.Refused)
-    (elim [ MeanAnswer.Answers a ↦ refl | MeanAnswer.Refused r ↦ ap MeanAnswer.Refused (refusal-back r) ])
+    (elim [ MeanAnswer.Answers a ↦ refl | MeanAnswer.Refused r ↦ refl ])
 
 pub deviation-injective : Injective deviation-said
 deviation-injective =
     read-back deviation-said (read DeviationAnswer.Answers DeviationAnswer.Refused)
-    (elim [ DeviationAnswer.Answers a ↦ refl | DeviationAnswer.Refused r ↦ ap DeviationAnswer.Refused (refusal-back r) ])
+    (elim [ DeviationAnswer.Answers a ↦ refl | DeviationAnswer.Refused r ↦ refl ])
 
 pub evaluation-injective : Injective evaluation-said
 evaluation-injective =
     read-back evaluation-said (read Evaluation.Answers Evaluation.Refused)
-    (elim [ Evaluation.Answers a ↦ refl | Evaluation.Refused r ↦ ap Evaluation.Refused (refusal-back r) ])
+    (elim [ Evaluation.Answers a ↦ refl | Evaluation.Refused r ↦ refl ])
 
 pub pay-injective : Injective pay-said
 pay-injective =
     read-back pay-said (read PayAnswer.Answers PayAnswer.Refused)
-    (elim [ PayAnswer.Answers a ↦ refl | PayAnswer.Refused r ↦ ap PayAnswer.Refused (refusal-back r) ])
+    (elim [ PayAnswer.Answers a ↦ refl | PayAnswer.Refused r ↦ refl ])
 
 pub mixture-injective : Injective mixture-said
 mixture-injective =
     read-back mixture-said (read MixtureAnswer.Answers MixtureAnswer.Refused)
-    (elim [ MixtureAnswer.Answers a ↦ refl | MixtureAnswer.Refused r ↦ ap MixtureAnswer.Refused (refusal-back r) ])
+    (elim [ MixtureAnswer.Answers a ↦ refl | MixtureAnswer.Refused r ↦ refl ])
 
 pub write-injective : Injective write-said
 write-injective =
     read-back write-said (read WriteAnswer.Answers WriteAnswer.Refused)
-    (elim [ WriteAnswer.Answers a ↦ refl | WriteAnswer.Refused r ↦ ap WriteAnswer.Refused (refusal-back r) ])
+    (elim [ WriteAnswer.Answers a ↦ refl | WriteAnswer.Refused r ↦ refl ])
 
 pub row-injective : Injective row-said
 row-injective =
     read-back row-said (read RowAnswer.Answers RowAnswer.Refused)
-    (elim [ RowAnswer.Answers a ↦ refl | RowAnswer.Refused r ↦ ap RowAnswer.Refused (refusal-back r) ])
+    (elim [ RowAnswer.Answers a ↦ refl | RowAnswer.Refused r ↦ refl ])
 
 pub outcome-injective : Injective outcome-said
 outcome-injective =
     read-back outcome-said (read (λ _. Outcome.Answers) Outcome.Refused)
-    (elim [ Outcome.Answers ↦ refl | Outcome.Refused r ↦ ap Outcome.Refused (refusal-back r) ])
+    (elim [ Outcome.Answers ↦ refl | Outcome.Refused r ↦ refl ])
 
 -- and the lot that was read counts as it is
 pub read-injective : Injective read-said

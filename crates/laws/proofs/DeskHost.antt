@@ -9,6 +9,9 @@ use lib.ListN.{replicate}
 use lib.Ieee.{binary64, ofInt, div, ofBits}
 use Rattle.rules.specs.declared.Limit.the-variants.{Absent, At}
 use Rattle.rules.specs.declared.Verdict.the-variants.{Accepted, Rejected}
+use Rattle.rules.specs.declared.Refusal.{Refusal}
+use Rattle.rules.specs.declared.Refusal.the-variants.{Size, Version, Flags, Count, Range, Unlimited, Crossed, Room, Number}
+use Rattle.rules.specs.declared.host.HostRefusal.{HostRefusal}
 use Rattle.rules.specs.declared.host.HostLot.{HostLot}
 use Rattle.rules.specs.declared.host.HostPair.{HostPair}
 use Rattle.rules.specs.Units.{thousandths, hundredths, composite-of, cents}
@@ -19,7 +22,7 @@ use Rattle.rules.specs.Percent.{sum, squares, spread, upper-distance, lower-dis
 use Rattle.rules.specs.Deviation.{deviation, first-from}
 use Rattle.rules.specs.Mixture.{density-pairs, mixture-limits}
 use Rattle.rules.specs.Record.{spelled, spell, fours, in-fours}
-use Rattle.rules.specs.Refusals.{any-out}
+use Rattle.rules.specs.Refusals.{number-of, any-out}
 use Rattle.rules.specs.Meets.{row-meets}
 use Rattle.rules.specs.Notebook.{lent-limit, lent-lot, row-of, refusal-asked, mean-asked, deviation-asked, pwl-asked}
 use Rattle.rules.specs.Entries.{percentages-of, read-says, read-leaves, beside, held, row-says}
@@ -63,6 +66,9 @@ pub absent-is-handed-back : host-lot (held-lot (numbers 10 (pos 7) 0)) ≡ numbe
 unfolding host-lot
 absent-is-handed-back = refl
 
+abbrev numbered : ℕ → HostRefusal
+numbered k = record { number = k }
+
 -- Of what is refused every number but the refusal's is 0.
 abbrev nothing : HostLot
 nothing =
@@ -82,45 +88,45 @@ nothing =
       tenth = pos 0;
     }
 
-pub refused-read-is-nothing : (bs : List ℕ) (k : ℕ) → read-says bs ≡ refused k → host-read (read-leaves bs) ≡ record { refusal = k; lot = nothing }
+pub refused-read-is-nothing : (bs : List ℕ) (r : Refusal) → read-says bs ≡ refused r → host-read (read-leaves bs) ≡ record { refusal = numbered (number-of r); lot = nothing }
 unfolding host-lot held
-refused-read-is-nothing bs k e = ap (λ (said : Said Lot). host-read (beside said)) e
+refused-read-is-nothing bs r e = ap (λ (said : Said Lot). host-read (beside said)) e
 
 -- Of every other answer: one that is refused, and one that is not.
 pub mean-is-given :
-    (host-mean (refused 4) ≡ record { refusal = 4; total = pos 0; count = 0 }) ×
-    (host-mean (answers (record { total = thousandths (pos 41600); count = 10 })) ≡ record { refusal = 0; total = pos 41600; count = 10 })
+    (host-mean (refused Count) ≡ record { refusal = numbered 4; total = pos 0; count = 0 }) ×
+    (host-mean (answers (record { total = thousandths (pos 41600); count = 10 })) ≡ record { refusal = numbered 0; total = pos 41600; count = 10 })
 mean-is-given = (refl, refl)
 
 pub deviation-is-given :
-    (host-deviation (refused 5) ≡ record { refusal = 5; deviation = pos 0 }) ×
-    (host-deviation (answers (thousandths (pos 825))) ≡ record { refusal = 0; deviation = pos 825 })
+    (host-deviation (refused Range) ≡ record { refusal = numbered 5; deviation = pos 0 }) ×
+    (host-deviation (answers (thousandths (pos 825))) ≡ record { refusal = numbered 0; deviation = pos 825 })
 deviation-is-given = (refl, refl)
 
 pub percentages-are-given :
-    (host-percentages (refused 6) ≡ record { refusal = 6; upper = pos 0; lower = pos 0; pwl = pos 0 }) ×
+    (host-percentages (refused Unlimited) ≡ record { refusal = numbered 6; upper = pos 0; lower = pos 0; pwl = pos 0 }) ×
     (host-percentages (answers (record { upper = hundredths (pos 9337); lower = hundredths (pos 9791); pwl = hundredths (pos 9128) })) ≡
-    record { refusal = 0; upper = pos 9337; lower = pos 9791; pwl = pos 9128 })
+    record { refusal = numbered 0; upper = pos 9337; lower = pos 9791; pwl = pos 9128 })
 percentages-are-given = (refl, refl)
 
 -- A verdict's number is 0 accepted, 1 rejected.
 pub payment-is-given :
-    (host-payment (refused 9) ≡ record { refusal = 9; composite = pos 0; vma = 0; voids = 0; density = 0; lot = 0; pay = pos 0 }) ×
+    (host-payment (refused Number) ≡ record { refusal = numbered 9; composite = pos 0; vma = 0; voids = 0; density = 0; lot = 0; pay = pos 0 }) ×
     (host-payment (answers (record { composite = composite-of (pos 998); vma = Accepted; voids = Rejected; density = Accepted; lot = Rejected; pay = cents (pos 63872000) })) ≡
-    record { refusal = 0; composite = pos 998; vma = 0; voids = 1; density = 0; lot = 1; pay = pos 63872000 })
+    record { refusal = numbered 0; composite = pos 998; vma = 0; voids = 1; density = 0; lot = 1; pay = pos 63872000 })
 payment-is-given = (refl, refl)
 
 abbrev pair : ℕ → ℕ → HostPair
 pair lower upper = record { lower = pos lower; upper = pos upper }
 
 pub mixture-limits-are-given :
-    (host-mixture-limits (refused 5) ≡ record { refusal = 5; vma = pair 0 0; voids = pair 0 0; density = pair 0 0 }) ×
+    (host-mixture-limits (refused Range) ≡ record { refusal = numbered 5; vma = pair 0 0; voids = pair 0 0; density = pair 0 0 }) ×
     (host-mixture-limits (answers (mixture-limits (pos 3) (pos 13000) (pos 4000))) ≡
-    record { refusal = 0; vma = pair 12300 16000; voids = pair 2650 5350; density = pair 91500 97000 })
+    record { refusal = numbered 0; vma = pair 12300 16000; voids = pair 2650 5350; density = pair 91500 97000 })
 unfolding mixture-limits density-pairs
 mixture-limits-are-given = (refl, refl)
 
-pub written-is-given : (host-written (refused 8) ≡ record { refusal = 8; size = 0 }) × (host-written (answers 29) ≡ record { refusal = 0; size = 29 })
+pub written-is-given : (host-written (refused Room) ≡ record { refusal = numbered 8; size = 0 }) × (host-written (answers 29) ≡ record { refusal = numbered 0; size = 29 })
 written-is-given = (refl, refl)
 
 -- ---- the row
@@ -138,12 +144,26 @@ voids-row = refl
 
 -- Each double of a refused lot is 0.
 pub refused-row-is-zero :
-    (mean-asked (refused 4) ≡ ofBits binary64 0) × (deviation-asked (refused 4) ≡ ofBits binary64 0) × (pwl-asked (refused 4) ≡ ofBits binary64 0)
+    (mean-asked (refused Count) ≡ ofBits binary64 0) × (deviation-asked (refused Count) ≡ ofBits binary64 0) × (pwl-asked (refused Count) ≡ ofBits binary64 0)
 unfolding ofBits
 refused-row-is-zero = (refl, refl, refl)
 
-pub refusal-is-asked : (refusal-asked {A = ℕ} (refused 7) ≡ 7) × (refusal-asked {A = ℕ} (answers 7) ≡ 0)
-refusal-is-asked = (refl, refl)
+-- Document 01's numbers of refusal, 0 for none.
+abbrev asked : Refusal → ℕ
+asked r = refusal-asked {A = ℕ} (refused r)
+
+pub refusal-is-asked :
+    (asked Size ≡ 1) ×
+    (asked Version ≡ 2) ×
+    (asked Flags ≡ 3) ×
+    (asked Count ≡ 4) ×
+    (asked Range ≡ 5) ×
+    (asked Unlimited ≡ 6) ×
+    (asked Crossed ≡ 7) ×
+    (asked Room ≡ 8) ×
+    (asked Number ≡ 9) ×
+    (refusal-asked {A = ℕ} (answers 7) ≡ 0)
+refusal-is-asked = (refl, refl, refl, refl, refl, refl, refl, refl, refl, refl)
 
 -- D9 as bytes: of 0 and 1, with an upper limit of 1.
 pub d9-row : row-says (at 1) Absent (in-fours (pos 0 ∷ pos 1 ∷ [])) ≡ answers (row-of (pos 1) 2 (pos 1) (pos 7249))
@@ -152,12 +172,12 @@ d9-row = refl
 
 -- A size that is not 4n for an allowed n is refusal 4, before any other.
 pub sizes-are-refused :
-    (row-says Absent Absent [] ≡ refused 4) ×
-    (row-says Absent Absent (replicate 4 0) ≡ refused 4) ×
-    (row-says Absent Absent (replicate 7 0) ≡ refused 4) ×
-    (row-says Absent Absent (replicate 9 0) ≡ refused 4) ×
-    (row-says Absent Absent (replicate 44 0) ≡ refused 4) ×
-    (row-says Absent Absent (replicate 8 0) ≡ refused 6) ×
-    (row-says Absent Absent (replicate 40 0) ≡ refused 6)
+    (refusal-asked (row-says Absent Absent []) ≡ 4) ×
+    (refusal-asked (row-says Absent Absent (replicate 4 0)) ≡ 4) ×
+    (refusal-asked (row-says Absent Absent (replicate 7 0)) ≡ 4) ×
+    (refusal-asked (row-says Absent Absent (replicate 9 0)) ≡ 4) ×
+    (refusal-asked (row-says Absent Absent (replicate 44 0)) ≡ 4) ×
+    (refusal-asked (row-says Absent Absent (replicate 8 0)) ≡ 6) ×
+    (refusal-asked (row-says Absent Absent (replicate 40 0)) ≡ 6)
 unfolding row-says row-meets lent-lot ruled fours spelled any-out
 sizes-are-refused = (refl, refl, refl, refl, refl, refl, refl)

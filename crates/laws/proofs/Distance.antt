@@ -2,6 +2,7 @@
 -- by any rule for rows and any column that are what is asked of them.
 use mathlib.Core.Path.{_≡_, refl}
 use mathlib.Core.Bool.{Bool, true, false}
+use mathlib.Core.List.{List}
 use mathlib.Core.Logic.{⊎-elim}
 use Prim.Native.Nat.{ℕ, _≤_, zero-le}
 use native.Mathlib.Nat.{le-refl}
@@ -11,20 +12,19 @@ use lib.Signed.{_≤ℤ_, _<ℤ_, ltZ}
 use Rattle.integers.proofs.Difference.{var, nat, diff-le, le-diff, ⊝_, _⊕_, _⊖_}
 use Rattle.integers.proofs.Order.{≤ℤ-trans, ≤ℤ-total, <ℤ→≤ℤ, neg-flips, pos-mono, le-leZ, lt-leZ, ltZ-true}
 use Rattle.rules.specs.Units.{hundred-percent}
-use Rattle.rules.specs.Table.{Table}
 use Rattle.rules.specs.Percent.{Rule, side}
 use Rattle.laws.specs.Column.{Column}
 use Rattle.laws.specs.RowRule.{RowRule}
 use Rattle.laws.specs.Reached.{reached}
 use Rattle.laws.proofs.Side.{reached-entry, reached-whole, side-inside, side-outside}
 
-module _ (rule : Rule) (table : Table) (n : ℕ) (rows : RowRule rule n) (column : Column (table n)) (v : ℤ) where
+module _ (rule : Rule) (column : List ℕ) (n : ℕ) (rows : RowRule rule n) (shape : Column column) (v : ℤ) where
   -- the percentage reached at a distance, whichever way it points
   abbrev at : ℤ → ℕ
-  at d = reached rule table n v d
+  at d = reached rule column n v d
 
   abbrev percentage : ℤ → ℤ
-  percentage d = side rule table n v d
+  percentage d = side rule column n v d
 
   -- It is half or more,
   half : (d : ℤ) → 5000 ≤ at d
@@ -32,9 +32,9 @@ module _ (rule : Rule) (table : Table) (n : ℕ) (rows : RowRule rule n) (column
     where
       by : (b : Bool) → ltZ (pos 0) v ≡ b → 5000 ≤ at d
       by true e =
-          rw (reached-entry rule table n v d e)
-          (omega (arith, column .starts, column .never-falls 0 (rule n v d) zero-le (rows .in-table v d (ltZ-true _ _ e))))
-      by false e = omega (arith, reached-whole rule table n v d e)
+          rw (reached-entry rule column n v d e)
+          (omega (arith, shape .starts, shape .never-falls 0 (rule n v d) zero-le (rows .in-table v d (ltZ-true _ _ e))))
+      by false e = omega (arith, reached-whole rule column n v d e)
 
   -- and grows with the row.
   grows : (d e : ℤ) → (pos 0 <ℤ v → rule n v d ≤ rule n v e) → at d ≤ at e
@@ -43,17 +43,17 @@ module _ (rule : Rule) (table : Table) (n : ℕ) (rows : RowRule rule n) (column
       by : (b : Bool) → ltZ (pos 0) v ≡ b → at d ≤ at e
       by true t =
           let above : pos 0 <ℤ v = ltZ-true _ _ t in
-          rw (reached-entry rule table n v d t, reached-entry rule table n v e t)
-          (column .never-falls (rule n v d) (rule n v e) (h above) (rows .in-table v e above))
-      by false t = rw (reached-whole rule table n v d t, reached-whole rule table n v e t) (le-refl 10000)
+          rw (reached-entry rule column n v d t, reached-entry rule column n v e t)
+          (shape .never-falls (rule n v d) (rule n v e) (h above) (rows .in-table v e above))
+      by false t = rw (reached-whole rule column n v d t, reached-whole rule column n v e t) (le-refl 10000)
 
   inside : (d : ℤ) → pos 0 ≤ℤ d → percentage d ≡ pos (at d)
-  inside d h = side-inside rule table n v d (le-leZ h)
+  inside d h = side-inside rule column n v d (le-leZ h)
 
   outside : (d : ℤ) → d <ℤ pos 0 → percentage d ≡ hundred-percent -ℤ pos (at d)
-  outside d h = side-outside rule table n v d (lt-leZ h)
+  outside d h = side-outside rule column n v d (lt-leZ h)
 
-  pub side-never-falls : (d e : ℤ) → d ≤ℤ e → side rule table n v d ≤ℤ side rule table n v e
+  pub side-never-falls : (d e : ℤ) → d ≤ℤ e → side rule column n v d ≤ℤ side rule column n v e
   side-never-falls d e h = ⊎-elim from-inside from-outside (≤ℤ-total (pos 0) d)
     where
       from-inside : pos 0 ≤ℤ d → percentage d ≤ℤ percentage e
@@ -76,7 +76,7 @@ module _ (rule : Rule) (table : Table) (n : ℕ) (rows : RowRule rule n) (column
       rw (outside d o, inside e (≤ℤ-trans opposite farther))
       (diff-le (nat 10000) (nat 10000 ⊖ nat (at d) ⊕ nat (at e)) (omega arith))
 
-  pub sides-cover : (d e : ℤ) → pos 0 ≤ℤ (d +ℤ e) → hundred-percent ≤ℤ (side rule table n v d +ℤ side rule table n v e)
+  pub sides-cover : (d e : ℤ) → pos 0 ≤ℤ (d +ℤ e) → hundred-percent ≤ℤ (side rule column n v d +ℤ side rule column n v e)
   sides-cover d e h = ⊎-elim first-inside (λ o. one-outside d e o h) (≤ℤ-total (pos 0) d)
     where
       first-inside : pos 0 ≤ℤ d → hundred-percent ≤ℤ (percentage d +ℤ percentage e)

@@ -12,10 +12,10 @@ use Rattle.rules.specs.declared.Totals.{Totals}
 use Rattle.rules.specs.declared.Evaluation.{Evaluation}
 use Rattle.rules.specs.Said.{answers}
 use Rattle.rules.specs.Lot.{Lot}
-use Rattle.rules.specs.Table.{table-106-1}
+use Rattle.rules.specs.Table.{entries}
 use Rattle.rules.specs.Percent.{nearest, totals, spread}
 use Rattle.rules.specs.Answers.{evaluation-said}
-use Rattle.rules.specs.Entries.{percentages-of, evaluation-says}
+use Rattle.rules.specs.Entries.{percentages-of, column-for, evaluation-says}
 use Rattle.laws.specs.Column.{Column}
 use Rattle.laws.specs.Wider.{with-limits, UpperAsWide, LowerAsWide}
 use Rattle.laws.proofs.Table.{table-106-1-column}
@@ -25,11 +25,11 @@ use Rattle.laws.proofs.NoClamp.{no-clamp, sides-add-up}
 use Rattle.laws.proofs.OneLimit.{one-limit-adds-up}
 use Rattle.laws.proofs.Wider.{wider-is-not-lower}
 
--- A lot that is answered has a column in Table 106-1.
-pub answered-has-a-column : (lot : Lot) (p : Percentages) → evaluation-says lot ≡ answers p → Column (table-106-1 (lot .n))
+-- What is found for a lot that is answered is a column: it starts at 50.00, never falls and ends at 100.00.
+pub answered-has-a-column : (lot : Lot) (p : Percentages) → evaluation-says lot ≡ answers p → Column (entries (column-for lot))
 unfolding evaluation-says
 answered-has-a-column lot p e =
-    let h = answered nearest table-106-1 lot p e in
+    let h = answered nearest (column-for lot) lot p e in
     table-106-1-column (lot .n) (h .0 .least) (h .0 .few)
 
 -- Wider limits never lower the percentage.
@@ -41,7 +41,7 @@ pub wider-answer-is-not-lower :
     (p .upper .0 ≤ℤ q .upper .0) × (p .lower .0 ≤ℤ q .lower .0) × (p .pwl .0 ≤ℤ q .pwl .0)
 unfolding evaluation-says
 wider-answer-is-not-lower lot upper lower p q above below e f =
-    wider-is-not-lower nearest table-106-1 lot upper lower p q (nearest-row-rule (lot .n)) (answered-has-a-column lot p (sym e)) above below (sym e) (sym f)
+    wider-is-not-lower nearest (column-for lot) lot upper lower p q (nearest-row-rule (lot .n)) (answered-has-a-column lot p (sym e)) above below (sym e) (sym f)
 
 -- The sides' sum less 100 lies in 0 to 100, with no clamp: it is the PWL.
 pub answer-adds-up :
@@ -52,7 +52,7 @@ pub answer-adds-up :
     (p .pwl .0 ≡ (p .upper .0 +ℤ p .lower .0) -ℤ pos 10000)
 unfolding evaluation-says
 answer-adds-up lot p e =
-    sides-add-up nearest table-106-1 lot p (nearest-row-rule (lot .n)) (answered-has-a-column lot p (sym e)) (sym e)
+    sides-add-up nearest (column-for lot) lot p (nearest-row-rule (lot .n)) (answered-has-a-column lot p (sym e)) (sym e)
 
 -- Two equal limits have nothing within them, unless V is 0.
 pub equal-limits-hold-nothing :
@@ -63,8 +63,8 @@ pub equal-limits-hold-nothing :
 unfolding evaluation-says percentages-of
 equal-limits-hold-nothing lot z p above e =
     let both : Lot = with-limits (At z) (At z) lot in
-    let h = answered nearest table-106-1 both p (sym e) in
+    let h = answered nearest (column-for lot) both p (sym e) in
     let a : Totals = totals (lot .n) (lot .readings) in
     let even = nearest-even-rule (lot .n) (omega (arith, h .0 .least)) in
     rw (sym (h .1))
-    (no-clamp nearest table-106-1 both ∙ ap (λ (x : ℤ). x -ℤ pos 10000) (one-limit-adds-up nearest table-106-1 a z even (answered-has-a-column both p (sym e)) above))
+    (no-clamp nearest (entries (column-for lot)) both ∙ ap (λ (x : ℤ). x -ℤ pos 10000) (one-limit-adds-up nearest (entries (column-for lot)) a z even (answered-has-a-column both p (sym e)) above))

@@ -8,6 +8,7 @@ use lib.IntN.{ℤ, pos, natAbs}
 use Rattle.integers.proofs.Difference.{Diff, var, nat, diff-le, arithℤ, ⊝_, _⊕_, _⊖_}
 use Rattle.integers.proofs.Order.{le-leZ}
 use Rattle.integers.proofs.Magnitude.{diff-within, within-diff, within-low, within-high}
+use Rattle.rules.specs.declared.Refusal.the-variants.{Range, Number}
 use Rattle.rules.specs.Units.{in-range}
 use Rattle.rules.specs.Said.{refused, answers, ruled}
 use Rattle.rules.specs.Mixture.{vma-pair, voids-pair, mixture-limits}
@@ -62,11 +63,11 @@ module _ (mixture minimum target : ℤ) where
   in-reach-is-answered h k = let known : mixture-case mixture .applies ≡ false = not-outside k in rw (passes h, known)
 
   -- It refuses with 5 a minimum or a target out of reach, whatever the mixture number.
-  pub out-of-reach-is-refused : ¬ InReach minimum target → mixture-says mixture minimum target ≡ refused 5
+  pub out-of-reach-is-refused : ¬ InReach minimum target → mixture-says mixture minimum target ≡ refused Range
   unfolding mixture-says mixture-meets
   out-of-reach-is-refused h = ruled-refused _ _ _ case-passed h
 
   -- It refuses with 9 any other mixture number, where both are in reach.
-  pub unknown-mixture-is-refused : InReach minimum target → ¬ Between (pos 0) (pos 3) mixture → mixture-says mixture minimum target ≡ refused 9
+  pub unknown-mixture-is-refused : InReach minimum target → ¬ Between (pos 0) (pos 3) mixture → mixture-says mixture minimum target ≡ refused Number
   unfolding mixture-says mixture-meets
   unknown-mixture-is-refused h k = ruled-passed _ _ _ (passes h) ∙ ruled-refused _ _ _ (inside (pos 3) mixture) k

@@ -11,25 +11,26 @@ use lib.ListN.{length}
 use Rattle.integers.proofs.Magnitude.{natAbs-add, natAbs-sub}
 use Rattle.rules.specs.declared.Totals.{Totals}
 use Rattle.rules.specs.declared.Limit.{Limit}
-use Rattle.rules.specs.declared.Outcome.{Outcome}
+use Rattle.rules.specs.declared.TotalsAnswer.{TotalsAnswer}
+use Rattle.rules.specs.declared.Row.{Row}
 use Rattle.rules.specs.declared.Refusal.{Refusal}
-use Rattle.rules.specs.Said.{answers, ruled}
+use Rattle.rules.specs.Said.{refused, answers, ruled}
 use Rattle.rules.specs.Lot.{Lot, most, lot-of}
-use Rattle.rules.specs.Table.{table-106-1}
+use Rattle.rules.specs.Table.{table-106-1, entries}
 use Rattle.rules.specs.Percent.{nearest, totals, spread, upper-side, lower-side}
 use Rattle.rules.specs.Deviation.{deviation}
 use Rattle.rules.specs.Record.{fours}
-use Rattle.rules.specs.Refusals.{told, allowed, size-fits, bytes-count-case, count-case, out-of-range}
-use Rattle.rules.specs.Meets.{lot-meets, evaluation-meets, row-meets}
+use Rattle.rules.specs.Refusals.{allowed, size-fits, bytes-count-case, count-case, out-of-range}
+use Rattle.rules.specs.Meets.{lot-meets, counted-meets, row-meets}
 use Rattle.rules.specs.Notebook.{lent-lot, row-of}
-use Rattle.rules.specs.Entries.{percentages-of, row-says}
+use Rattle.rules.specs.Answers.{totals-said}
+use Rattle.rules.specs.Entries.{lot-totals, lot-totals-says, row-totals-says, percentages-of, row-says}
+use Rattle.laws.specs.Column.{Column}
 use Rattle.laws.specs.Bounds.{Bounded}
-use Rattle.laws.specs.Lent.{with-totals}
-use Rattle.laws.proofs.Ruled.{ruled-passed, ruled-answers, ruled-unrefused, refused-alike, none-met}
+use Rattle.laws.proofs.Ruled.{ruled-passed, ruled-unrefused, none-met, totals-answered, totals-refused}
 use Rattle.laws.proofs.Accepted.{LotAccepted, lot-accepted, lent-readings}
 use Rattle.laws.proofs.Bounds.{totals-bounded}
 use Rattle.laws.proofs.Between.{between-magnitude}
-use Rattle.laws.proofs.Table.{table-106-1-column}
 use Rattle.laws.proofs.Nearest.{nearest-row-rule}
 use Rattle.laws.proofs.Side.{upper-side-in-percent, lower-side-in-percent}
 use Rattle.laws.proofs.Spelled.{length-fours}
@@ -41,61 +42,67 @@ fitting-count size e =
     leb-true (size / 4) most (and-eq-true-iff (leb 2 (size / 4)) (leb (size / 4) most) .0 few .1)
 
 -- The PWL of totals and limits is no large number, before it is known to be a percentage.
-pub pwl-small : {a : Totals} → Bounded a → (upper lower : Limit) → natAbs (percentages-of nearest table-106-1 a upper lower .pwl .0) ≤ 30000
+pub pwl-small : (a : Totals) {column : List ℕ} → Column column → (upper lower : Limit) → natAbs (percentages-of nearest column a upper lower .pwl .0) ≤ 30000
 unfolding percentages-of
-pwl-small {a} h upper lower =
+pwl-small a {column} shape upper lower =
     let rows = nearest-row-rule (a .n) .in-table in
-    let column = table-106-1-column (a .n) (h .least) (h .few) in
-    let u : ℤ = upper-side nearest table-106-1 a upper in
-    let l : ℤ = lower-side nearest table-106-1 a lower in
-    let mu : natAbs u ≤ 10000 = between-magnitude (upper-side-in-percent nearest table-106-1 a rows column upper) in
-    let ml : natAbs l ≤ 10000 = between-magnitude (lower-side-in-percent nearest table-106-1 a rows column lower) in
+    let u : ℤ = upper-side nearest column a upper in
+    let l : ℤ = lower-side nearest column a lower in
+    let mu : natAbs u ≤ 10000 = between-magnitude (upper-side-in-percent nearest column a rows shape upper) in
+    let ml : natAbs l ≤ 10000 = between-magnitude (lower-side-in-percent nearest column a rows shape lower) in
     omega (arith, natAbs-add u l, natAbs-sub (u +ℤ l) (pos 10000))
+
+-- the row of a lot whose totals are these
+abbrev row-of-totals : Totals → Limit → Limit → Row
+row-of-totals a upper lower =
+    row-of (a .t) (a .n) (pos (deviation (a .n) (spread a))) (percentages-of nearest (entries (table-106-1 (a .n))) a upper lower .pwl .0)
 
 -- What is known of a lent lot that is not refused, whose totals are these.
 pub record LentAccepted (upper lower : Limit) (bs : List ℕ) (a : Totals) : Type 0 where
   pub bounded : Bounded a
   pub upper-near : out-of-range upper ≡ false
   pub lower-near : out-of-range lower ≡ false
-  pub row : row-says upper lower bs ≡ answers (row-of (a .t) (a .n) (pos (deviation (a .n) (spread a))) (percentages-of nearest table-106-1 a upper lower .pwl .0))
+  pub row : row-says upper lower bs ≡ answers (row-of-totals a upper lower)
 
 module _ (upper lower : Limit) (bs : List ℕ) where
   abbrev n : ℕ
   n = length bs / 4
 
   -- The lot of some bytes is the lent list of the numbers that they spell.
-  listed : lent-lot upper lower bs ≡ lot-of upper lower (fours n bs)
+  pub listed : lent-lot upper lower bs ≡ lot-of upper lower (fours n bs)
   unfolding lent-lot
   listed = λ i. record { n = sym (length-fours n bs) i; upper = upper; lower = lower; readings = fours n bs }
 
-  -- Bytes whose size fits meet what direct evaluation of those numbers does.
-  pub fitting-meets : {A : Type 0} (a : A) → size-fits (length bs) ≡ true → ruled (row-meets bs (lent-lot upper lower bs)) a ≡ ruled (evaluation-meets (lot-of upper lower (fours n bs))) a
-  unfolding row-meets evaluation-meets lent-lot
+  -- Bytes whose size fits meet what a lot of those numbers does,
+  pub fitting-meets : {A : Type 0} (a : A) → size-fits (length bs) ≡ true → ruled (row-meets bs (lent-lot upper lower bs)) a ≡ ruled (counted-meets (lot-of upper lower (fours n bs))) a
+  unfolding row-meets lent-lot
   fitting-meets a e =
       let few : allowed n ≡ true = and-eq-true-iff (eqb (length bs % 4) 0) (allowed n) .0 e .1 in
       let lot : Lot = lent-lot upper lower bs in
       ruled-passed (bytes-count-case bs) (lot-meets lot) a (ap not e)
       ∙ sym (ruled-passed (count-case n) (lot-meets lot) a (ap not few))
-      ∙ ap (λ (l : Lot). ruled (evaluation-meets l) a) listed
+      ∙ ap (λ (l : Lot). ruled (counted-meets l) a) listed
 
-  module _ (said : Outcome) (a : Totals) (e : with-totals said a ≡ ruled (row-meets bs (lent-lot upper lower bs)) (totals n (fours n bs))) where
-    pub lent-accepted : said ≡ Outcome.Answers → LentAccepted upper lower bs a
-    unfolding row-meets lent-lot row-says
+  -- and have its totals.
+  pub fitting-totals : size-fits (length bs) ≡ true → row-totals-says upper lower bs ≡ lot-totals-says (lot-of upper lower (fours n bs))
+  unfolding row-totals-says lot-totals-says
+  fitting-totals e = fitting-meets (lot-totals (lent-lot upper lower bs)) e ∙ ap (λ (l : Lot). ruled (counted-meets (lot-of upper lower (fours n bs))) (lot-totals l)) listed
+
+  module _ {t : TotalsAnswer} (e : totals-said t ≡ row-totals-says upper lower bs) where
+    pub lent-accepted : {a : Totals} → t ≡ TotalsAnswer.Answers a → LentAccepted upper lower bs a
+    unfolding row-totals-says row-meets lent-lot row-says
     lent-accepted h =
         let lot : Lot = lent-lot upper lower bs in
-        let answered = ruled-answers (row-meets bs lot) (totals n (fours n bs)) a (sym e ∙ ap (λ (o : Outcome). with-totals o a) h) in
+        let answered = totals-answered (row-meets bs lot) (lot-totals lot) e h in
         let fits = not-false (size-fits (length bs)) (none-met (bytes-count-case bs) (lot-meets lot) (answered .0) .0) in
         let accepted : LotAccepted (lot-of upper lower (fours n bs)) = lot-accepted _ (sym (fitting-meets tt fits) ∙ answered .0) in
         record {
           bounded = totals-bounded (lent-readings accepted) (sym (answered .1) ∙ ap (λ (m : ℕ). totals m (fours n bs)) (sym (length-fours n bs)));
           upper-near = accepted .upper-near;
           lower-near = accepted .lower-near;
-          row =
-              ruled-unrefused (row-meets bs lot) _ (answered .0)
-              ∙ ap (λ (b : Totals). answers (row-of (b .t) (b .n) (pos (deviation (b .n) (spread b))) (percentages-of nearest table-106-1 b upper lower .pwl .0))) (answered .1);
+          row = ruled-unrefused (row-meets bs lot) _ (answered .0) ∙ ap (λ (b : Totals). answers (row-of-totals b upper lower)) (answered .1);
         }
 
-    pub lent-refused : {refusal : Refusal} → said ≡ Outcome.Refused refusal → row-says upper lower bs ≡ told refusal
-    unfolding row-says
-    lent-refused h =
-        refused-alike (row-meets bs (lent-lot upper lower bs)) (totals n (fours n bs)) _ (sym e ∙ ap (λ (o : Outcome). with-totals o a) h)
+    pub lent-refused : {refusal : Refusal} → t ≡ TotalsAnswer.Refused refusal → row-says upper lower bs ≡ refused refusal
+    unfolding row-totals-says row-says
+    lent-refused h = totals-refused (row-meets bs (lent-lot upper lower bs)) (lot-totals (lent-lot upper lower bs)) e _ h

@@ -1,4 +1,4 @@
--- Each entry gives the lowest number that applies of those that it can meet: their cases stand in the order of their numbers.
+-- Each of these entries gives the lowest number that applies of those that it can meet: its cases stand in the order of their numbers.
 use mathlib.Core.List.{List}
 use Prim.Native.Nat.{ℕ}
 use lib.IntN.{ℤ}
@@ -31,7 +31,7 @@ unfolding read-says read-meets
 read-lowest bs = lowest 1 (read-meets bs) _ tt
 
 pub write-lowest : (lot : Lot) (out : List ℕ) → Rightly (write-meets lot (length out)) (write-says lot out)
-unfolding write-says write-meets evaluation-meets
+unfolding write-says write-meets
 write-lowest lot out = lowest 4 (write-meets lot (length out)) _ tt
 
 pub pay-lowest : (vma voids density price quantity : ℤ) → Rightly (pay-meets vma voids density price quantity) (pay-says vma voids density price quantity)

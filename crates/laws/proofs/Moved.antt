@@ -3,6 +3,7 @@
 use mathlib.Core.Path.{_≡_, refl, sym, _∙_}
 use mathlib.Core.Bool.{Bool, true, false}
 use mathlib.Core.List.{List}
+use Prim.Native.Nat.{ℕ}
 use lib.IntN.{ℤ, pos, _+ℤ_, _*ℤ_}
 use lib.ListN.{length, length-map}
 use Rattle.integers.proofs.Order.{ltZ-shift}
@@ -11,7 +12,7 @@ use Rattle.rules.specs.declared.Limit.the-variants.{Absent, At}
 use Rattle.rules.specs.declared.Mean.{Mean}
 use Rattle.rules.specs.Said.{answers}
 use Rattle.rules.specs.Lot.{Lot}
-use Rattle.rules.specs.Table.{Table}
+use Rattle.rules.specs.Table.{Found, entries}
 use Rattle.rules.specs.Percent.{Rule, totals, upper-side, lower-side}
 use Rattle.rules.specs.Refusals.{count-case, any-out, none, crossed}
 use Rattle.rules.specs.Meets.{readings-meet, evaluation-meets}
@@ -39,35 +40,35 @@ meets-stay amount lot near near′ = rw (near, near′, none-stays amount (lot .
 
 -- ---- the percentages
 
-module _ (rule : Rule) (table : Table) (amount : ℤ) where
-  upper-side-stays : (xs : List ℤ) (upper : Limit) → upper-side rule table (totals (length xs) (moved-readings amount xs)) (moved-limit amount upper) ≡ upper-side rule table (totals (length xs) xs) upper
+module _ (rule : Rule) (column : List ℕ) (amount : ℤ) where
+  upper-side-stays : (xs : List ℤ) (upper : Limit) → upper-side rule column (totals (length xs) (moved-readings amount xs)) (moved-limit amount upper) ≡ upper-side rule column (totals (length xs) xs) upper
   unfolding upper-side
   upper-side-stays xs Absent = refl
   upper-side-stays xs (At u) = rw (spread-stays amount xs, upper-distance-stays amount xs (u .0))
 
-  lower-side-stays : (xs : List ℤ) (lower : Limit) → lower-side rule table (totals (length xs) (moved-readings amount xs)) (moved-limit amount lower) ≡ lower-side rule table (totals (length xs) xs) lower
+  lower-side-stays : (xs : List ℤ) (lower : Limit) → lower-side rule column (totals (length xs) (moved-readings amount xs)) (moved-limit amount lower) ≡ lower-side rule column (totals (length xs) xs) lower
   unfolding lower-side
   lower-side-stays xs Absent = refl
   lower-side-stays xs (At l) = rw (spread-stays amount xs, lower-distance-stays amount xs (l .0))
 
-  percentages-stay : (lot : Lot) → length (lot .readings) ≡ lot .n → percentages rule table (moved amount lot) ≡ percentages rule table lot
+  percentages-stay : (lot : Lot) → length (lot .readings) ≡ lot .n → percentages rule column (moved amount lot) ≡ percentages rule column lot
   unfolding percentages-of
   percentages-stay lot e = rw (← e, upper-side-stays (lot .readings) (lot .upper), lower-side-stays (lot .readings) (lot .lower))
 
 -- ---- the laws
 
 -- Moving all by one amount changes nothing, where both lots are in range: the same answer or the same refusal, by any rule for rows and
--- any table. A count that is refused is so whatever the readings; any other says how many they are.
+-- whatever is found. A count that is refused is so whatever the readings; any other says how many they are.
 pub moving-changes-nothing :
-    (rule : Rule) (table : Table) (amount : ℤ) (lot : Lot) →
+    (rule : Rule) (found : Found) (amount : ℤ) (lot : Lot) →
     Counted lot → InRange lot → InRange (moved amount lot) →
-    evaluated rule table (moved amount lot) ≡ evaluated rule table lot
+    evaluated rule found (moved amount lot) ≡ evaluated rule found lot
 unfolding evaluated evaluation-meets
-moving-changes-nothing rule table amount lot says near near′ = by (count-case (lot .n) .applies) refl
+moving-changes-nothing rule found amount lot says near near′ = by (count-case (lot .n) .applies) refl
   where
-    by : (b : Bool) → count-case (lot .n) .applies ≡ b → evaluated rule table (moved amount lot) ≡ evaluated rule table lot
+    by : (b : Bool) → count-case (lot .n) .applies ≡ b → evaluated rule found (moved amount lot) ≡ evaluated rule found lot
     by true e = ruled-met _ _ _ e ∙ sym (ruled-met _ _ _ e)
-    by false e = rw (meets-stay amount lot near near′, percentages-stay rule table amount lot (says (count-allowed (lot .n) e .1)))
+    by false e = rw (meets-stay amount lot near near′, percentages-stay rule (entries found) amount lot (says (count-allowed (lot .n) e .1)))
 
 -- The deviation does not change either, where no reading is out of range.
 pub moving-keeps-deviation :

@@ -12,11 +12,10 @@ use Rattle.rules.specs.declared.MeanAnswer.{MeanAnswer}
 use Rattle.rules.specs.declared.DeviationAnswer.{DeviationAnswer}
 use Rattle.rules.specs.declared.Evaluation.{Evaluation}
 use Rattle.rules.specs.Lot.{Lot, lot-of, lot-in, most}
-use Rattle.rules.specs.Table.{table-106-1}
 use Rattle.rules.specs.Percent.{nearest}
 use Rattle.rules.specs.Refusals.{any-out}
 use Rattle.rules.specs.Answers.{mean-said, deviation-said, evaluation-said}
-use Rattle.rules.specs.Entries.{mean-says, deviation-says, evaluation-says}
+use Rattle.rules.specs.Entries.{mean-says, deviation-says, column-for, evaluation-says}
 use Rattle.laws.specs.Moved.{moved, moved-readings, moved-limit, moved-held, InRange, Counted}
 use Rattle.laws.proofs.Answers.{evaluation-injective, deviation-injective}
 use Rattle.laws.proofs.Moved.{moving-changes-nothing, moving-keeps-deviation, moving-moves-sum}
@@ -26,7 +25,7 @@ of-lots : (amount : ℤ) (lot other : Lot) (r q : Evaluation) → other ≡ move
 unfolding evaluation-says
 of-lots amount lot other r q same says near near′ e f =
     evaluation-injective q r
-    (f ∙ ap evaluation-says same ∙ moving-changes-nothing nearest table-106-1 amount lot says near (subst InRange same near′) ∙ sym e)
+    (f ∙ ap evaluation-says same ∙ moving-changes-nothing nearest (column-for lot) amount lot says near (subst InRange same near′) ∙ sym e)
 
 -- Moving all by one amount changes nothing in the answer to readings in a lent list, with two limits.
 pub moved-answer-is-the-same :

@@ -8,11 +8,10 @@ use Rattle.rules.specs.declared.Evaluation.{Evaluation}
 use Rattle.rules.specs.declared.Payment.{Payment}
 use Rattle.rules.specs.declared.PayAnswer.{PayAnswer}
 use Rattle.rules.specs.Lot.{Lot}
-use Rattle.rules.specs.Table.{table-106-1}
 use Rattle.rules.specs.Percent.{nearest}
 use Rattle.rules.specs.Pay.{factor}
 use Rattle.rules.specs.Answers.{evaluation-said, pay-said}
-use Rattle.rules.specs.Entries.{evaluation-says, bare}
+use Rattle.rules.specs.Entries.{column-for, evaluation-says, bare}
 use Rattle.laws.specs.Wider.{with-limits, UpperAsWide, LowerAsWide}
 use Rattle.laws.specs.Paid.{Characteristic, pay-says-of}
 use Rattle.laws.proofs.Nearest.{nearest-row-rule}
@@ -41,7 +40,7 @@ pub wider-payment-is-not-lower :
     (factor (p .pwl .0) ≤ℤ factor (q .pwl .0)) × (a .composite .0 ≤ℤ b .composite .0) × (a .pay .0 ≤ℤ b .pay .0)
 unfolding evaluation-says
 wider-payment-is-not-lower lot upper lower p q which x y price quantity a b above below e f g k =
-    wider-is-not-paid-less nearest table-106-1 lot upper lower p q which x y price quantity a b (nearest-row-rule (lot .n)) (answered-has-a-column lot p (sym e)) above below (sym e) (sym f) (sym g) (sym k)
+    wider-is-not-paid-less nearest (column-for lot) lot upper lower p q which x y price quantity a b (nearest-row-rule (lot .n)) (answered-has-a-column lot p (sym e)) above below (sym e) (sym f) (sym g) (sym k)
 
 -- No limits that are answered bring a refusal of pay where others brought none.
 pub limits-are-answered-alike :
@@ -55,5 +54,5 @@ pub limits-are-answered-alike :
 unfolding evaluation-says
 limits-are-answered-alike lot upper lower p q which x y price quantity r s e f g k =
     ap bare g
-    ∙ limits-are-paid-alike nearest table-106-1 lot upper lower p q which x y price quantity (nearest-row-rule (lot .n)) (answered-has-a-column lot p (sym e)) (sym e) (sym f)
+    ∙ limits-are-paid-alike nearest (column-for lot) lot upper lower p q which x y price quantity (nearest-row-rule (lot .n)) (answered-has-a-column lot p (sym e)) (sym e) (sym f)
     ∙ sym (ap bare k)

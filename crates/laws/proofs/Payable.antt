@@ -3,6 +3,7 @@ use mathlib.Core.Path.{_≡_, _∙_}
 use mathlib.Core.Bool.{Bool, false, _||_}
 use mathlib.Core.List.{[]}
 use lib.IntN.{ℤ, pos}
+use Rattle.rules.specs.declared.Refusal.the-variants.{Number}
 use Rattle.rules.specs.Units.{hundred-percent}
 use Rattle.rules.specs.Said.{refused, answers, checked}
 use Rattle.rules.specs.Pay.{payment}
@@ -45,6 +46,6 @@ module _ (vma voids density price quantity : ℤ) where
   payable-is-paid h = ruled-passed _ _ _ (passes h) ∙ ruled-none _
 
   -- and refused with 9 for any other numbers.
-  pub not-payable-is-refused : ¬ Payable vma voids density price quantity → pay-says vma voids density price quantity ≡ refused 9
+  pub not-payable-is-refused : ¬ Payable vma voids density price quantity → pay-says vma voids density price quantity ≡ refused Number
   unfolding pay-says pay-meets
   not-payable-is-refused h = ruled-refused _ _ _ case-passed h

@@ -21,7 +21,7 @@ pub read-answered : (bs : List ℕ) (r : ReadAnswer) → r .said ≡ Outcome.Ans
 read-answered bs r ok e = by (read-says bs) refl
   where
     by : (s : Said Lot) → read-says bs ≡ s → read-says bs ≡ answers (lot-in (r .lot))
-    by (refused k) f = cc (ap outcome-said ok, ap (λ (x : ReadSaid). x .said) e, ap bare f)
+    by (refused q) f = cc (ap outcome-said ok, ap (λ (x : ReadSaid). x .said) e, ap bare f)
     by (answers lot) f = f ∙ ap answers (sym (ap (λ (x : ReadSaid). lot-in (x .lot)) e ∙ read-is-held bs lot f))
 
 -- What was written of a lot in memory reads back as the same lot.

@@ -9,12 +9,14 @@ use lib.IntN.{ℤ, pos}
 use lib.ListN.{length, length-append, length-map, length-replicate, take, drop, replicate}
 use lib.Seq.{take-at}
 use Rattle.rules.specs.declared.Thousandths.{Thousandths}
+use Rattle.rules.specs.declared.Refusal.{Refusal}
+use Rattle.rules.specs.declared.Refusal.the-variants.{Count, Room}
 use Rattle.rules.specs.Units.{thousandths}
 use Rattle.rules.specs.Said.{Said, refused, answers, ruled, checked}
 use Rattle.rules.specs.Lot.{Lot, most, plain, lot-in}
 use Rattle.rules.specs.Record.{n-field, head-size, lot-of-record, record-of}
 use Rattle.rules.specs.Refusals.{count-case, room-case}
-use Rattle.rules.specs.Meets.{head-meets, lot-meets, evaluation-meets, read-meets, write-meets}
+use Rattle.rules.specs.Meets.{head-meets, lot-meets, counted-meets, evaluation-meets, read-meets, write-meets}
 use Rattle.rules.specs.Entries.{evaluated, evaluation-says, read-says, held, write-says, written, after-write}
 use Rattle.laws.specs.Moved.{Counted}
 use Rattle.laws.specs.Bytes.{Bytes}
@@ -40,8 +42,8 @@ places-back (x ∷ xs) rest = ap (λ (ys : List ℤ). x ∷ ys) (places-back xs 
 
 -- ---- over the definitions
 
-pub written-lot-reads-back : (lot : Lot) → Counted lot → checked (evaluation-meets lot) ≡ answers tt → read-says (record-of lot) ≡ answers lot
-unfolding read-says read-meets evaluation-meets
+pub written-lot-reads-back : (lot : Lot) → Counted lot → checked (counted-meets lot) ≡ answers tt → read-says (record-of lot) ≡ answers lot
+unfolding read-says read-meets
 written-lot-reads-back lot counted e =
     let ok = lot-accepted lot e in
     let size = counted (ok .few) in
@@ -50,9 +52,9 @@ written-lot-reads-back lot counted e =
     ∙ ruled-given (lot-meets lot) lot
     ∙ ap (given lot) (none-met (count-case (lot .n)) (lot-meets lot) e .1)
 
--- a lot that was read is no lot that evaluation or writing refuses, its readings are as many as it says,
-pub read-is-accepted : (bs : List ℕ) (lot : Lot) → read-says bs ≡ answers lot → (checked (evaluation-meets lot) ≡ answers tt) × (length (lot .readings) ≡ lot .n)
-unfolding evaluation-meets lot-of-record
+-- a lot that was read is no lot that is refused, its readings are as many as it says,
+pub read-is-accepted : (bs : List ℕ) (lot : Lot) → read-says bs ≡ answers lot → (checked (counted-meets lot) ≡ answers tt) × (length (lot .readings) ≡ lot .n)
+unfolding lot-of-record
 read-is-accepted bs lot e =
     let r = read-parts bs lot e in
     let n : ℕ = n-field bs in
@@ -82,7 +84,7 @@ pub write-reads-back : (lot : Lot) (out : List ℕ) (size : ℕ) → Counted lot
 unfolding write-says write-meets written
 write-reads-back lot out size counted e =
     let r = ruled-answers (write-meets lot (length out)) (length (record-of lot)) size e in
-    let ok = none-of-either (evaluation-meets lot) (room-case (length out) (length (record-of lot)) ∷ []) (r .0) in
+    let ok = none-of-either (counted-meets lot) (room-case (length out) (length (record-of lot)) ∷ []) (r .0) in
     ap (λ (s : Said ℕ). read-says (take size (written (record-of lot) out s))) e
     ∙ ap read-says (take-at (record-of lot) (drop (length (record-of lot)) out) size (r .1))
     ∙ written-lot-reads-back lot counted (ok .0)
@@ -99,20 +101,20 @@ read-writes-back bs out lot h room e = (said, ap (written (record-of lot) out) s
 
     said : write-says lot out ≡ answers (length bs)
     said =
-        ruled-later (evaluation-meets lot) _ _ (read-is-accepted bs lot e .0)
+        ruled-later (counted-meets lot) _ _ (read-is-accepted bs lot e .0)
         ∙ ruled-passed (room-case (length out) (length (record-of lot))) _ _ (le-ltb (length out) (length (record-of lot)) (rw own room))
         ∙ ruled-none _
         ∙ ap (λ (cs : List ℕ). answers (length cs)) own
 
 -- A refused write leaves every lent byte as it was,
-pub refused-write-keeps : (lot : Lot) (out : List ℕ) (k : ℕ) → write-says lot out ≡ refused k → after-write lot out ≡ out
+pub refused-write-keeps : (lot : Lot) (out : List ℕ) (r : Refusal) → write-says lot out ≡ refused r → after-write lot out ≡ out
 unfolding written
-refused-write-keeps lot out k e = ap (written (record-of lot) out) e
+refused-write-keeps lot out r e = ap (written (record-of lot) out) e
 
 -- and too little room is refused by 8, of a lot that is not refused itself.
-pub short-room-is-refused : (lot : Lot) (out : List ℕ) → checked (evaluation-meets lot) ≡ answers tt → length out < length (record-of lot) → write-says lot out ≡ refused 8
+pub short-room-is-refused : (lot : Lot) (out : List ℕ) → checked (counted-meets lot) ≡ answers tt → length out < length (record-of lot) → write-says lot out ≡ refused Room
 unfolding write-says write-meets
-short-room-is-refused lot out e short = ruled-later (evaluation-meets lot) _ _ e ∙ ruled-met _ _ _ (lt-ltb (length out) (length (record-of lot)) short)
+short-room-is-refused lot out e short = ruled-later (counted-meets lot) _ _ e ∙ ruled-met _ _ _ (lt-ltb (length out) (length (record-of lot)) short)
 
 -- ---- in memory
 
@@ -122,7 +124,7 @@ unfolding held
 read-has-all-places bs = by (read-says bs) refl
   where
     by : (s : Said Lot) → read-says bs ≡ s → length (held s .readings) ≡ most
-    by (refused k) e = refl
+    by (refused r) e = refl
     by (answers lot) e =
         let ok = read-is-accepted bs lot e in
         omega (
@@ -135,6 +137,6 @@ read-has-all-places bs = by (read-says bs) refl
         )
 
 -- and what a refused read leaves there is no lot: its count is refused.
-pub blank-is-refused : (k : ℕ) (out : List ℕ) → (evaluation-says (lot-in (held (refused k))) ≡ refused 4) × (write-says (lot-in (held (refused k))) out ≡ refused 4)
+pub blank-is-refused : (r : Refusal) (out : List ℕ) → (evaluation-says (lot-in (held (refused r))) ≡ refused Count) × (write-says (lot-in (held (refused r))) out ≡ refused Count)
 unfolding held evaluation-says evaluated evaluation-meets write-says write-meets
-blank-is-refused k out = (ruled-met _ _ _ refl, ruled-met _ _ _ refl)
+blank-is-refused r out = (ruled-met _ _ _ refl, ruled-met _ _ _ refl)

@@ -1,6 +1,7 @@
 -- A side's percentage lies in 0 to 10,000, by any rule for rows and any column.
 use mathlib.Core.Path.{_≡_, refl}
 use mathlib.Core.Bool.{Bool, true, false, cond}
+use mathlib.Core.List.{List}
 use lib.IntN.{ℤ, pos, _-ℤ_}
 use lib.Signed.{_<ℤ_, leZ, ltZ}
 use Prim.Native.Nat.{ℕ, _≤_, zero-le}
@@ -12,7 +13,7 @@ use Rattle.rules.specs.declared.Limit.{Limit}
 use Rattle.rules.specs.declared.Limit.the-variants.{Absent, At}
 use Rattle.rules.specs.declared.Totals.{Totals}
 use Rattle.rules.specs.Units.{hundred-percent}
-use Rattle.rules.specs.Table.{Table, entry, last-row}
+use Rattle.rules.specs.Table.{entry, last-row}
 use Rattle.rules.specs.Percent.{Rule, spread, upper-distance, lower-distance, side, upper-side, lower-side}
 use Rattle.laws.specs.Column.{Column}
 use Rattle.laws.specs.InPercent.{InPercent}
@@ -30,56 +31,56 @@ rest e h =
       high = diff-le (nat 10000 ⊖ nat e) (nat 10000) (omega arith);
     }
 
-module _ (rule : Rule) (table : Table) (n : ℕ) (v d : ℤ) where
-  pub reached-entry : ltZ (pos 0) v ≡ true → reached rule table n v d ≡ entry table n (rule n v d)
+module _ (rule : Rule) (column : List ℕ) (n : ℕ) (v d : ℤ) where
+  pub reached-entry : ltZ (pos 0) v ≡ true → reached rule column n v d ≡ entry column (rule n v d)
   unfolding reached
   reached-entry e = rw e
 
-  pub reached-whole : ltZ (pos 0) v ≡ false → reached rule table n v d ≡ 10000
+  pub reached-whole : ltZ (pos 0) v ≡ false → reached rule column n v d ≡ 10000
   unfolding reached
   reached-whole e = rw e
 
-  pub reached-at-most : (pos 0 <ℤ v → rule n v d ≤ last-row) → Column (table n) → reached rule table n v d ≤ 10000
-  reached-at-most h column = by (ltZ (pos 0) v) refl
+  pub reached-at-most : (pos 0 <ℤ v → rule n v d ≤ last-row) → Column column → reached rule column n v d ≤ 10000
+  reached-at-most h shape = by (ltZ (pos 0) v) refl
     where
-      by : (b : Bool) → ltZ (pos 0) v ≡ b → reached rule table n v d ≤ 10000
-      by true e = rw (reached-entry e) (entry-at-most column (h (ltZ-true _ _ e)))
+      by : (b : Bool) → ltZ (pos 0) v ≡ b → reached rule column n v d ≤ 10000
+      by true e = rw (reached-entry e) (entry-at-most shape (h (ltZ-true _ _ e)))
       by false e = rw (reached-whole e) (le-refl 10000)
 
   -- The side is what it reaches, and below zero the rest to 10,000.
-  pub side-inside : leZ (pos 0) d ≡ true → side rule table n v d ≡ pos (reached rule table n v d)
+  pub side-inside : leZ (pos 0) d ≡ true → side rule column n v d ≡ pos (reached rule column n v d)
   unfolding side reached
   side-inside e = rw e (by (ltZ (pos 0) v))
     where
-      by : (b : Bool) → cond b (pos (entry table n (rule n v d))) hundred-percent ≡ pos (cond b (entry table n (rule n v d)) 10000)
+      by : (b : Bool) → cond b (pos (entry column (rule n v d))) hundred-percent ≡ pos (cond b (entry column (rule n v d)) 10000)
       by true = refl
       by false = refl
 
-  pub side-outside : leZ (pos 0) d ≡ false → side rule table n v d ≡ hundred-percent -ℤ pos (reached rule table n v d)
+  pub side-outside : leZ (pos 0) d ≡ false → side rule column n v d ≡ hundred-percent -ℤ pos (reached rule column n v d)
   unfolding side reached
   side-outside e = rw e (by (ltZ (pos 0) v))
     where
-      by : (b : Bool) → cond b (hundred-percent -ℤ pos (entry table n (rule n v d))) (pos 0) ≡ hundred-percent -ℤ pos (cond b (entry table n (rule n v d)) 10000)
+      by : (b : Bool) → cond b (hundred-percent -ℤ pos (entry column (rule n v d))) (pos 0) ≡ hundred-percent -ℤ pos (cond b (entry column (rule n v d)) 10000)
       by true = refl
       by false = refl
 
-  pub side-in-percent : (pos 0 <ℤ v → rule n v d ≤ last-row) → Column (table n) → InPercent (side rule table n v d)
-  side-in-percent h column = by (leZ (pos 0) d) refl
+  pub side-in-percent : (pos 0 <ℤ v → rule n v d ≤ last-row) → Column column → InPercent (side rule column n v d)
+  side-in-percent h shape = by (leZ (pos 0) d) refl
     where
-      small : reached rule table n v d ≤ 10000
-      small = reached-at-most h column
+      small : reached rule column n v d ≤ 10000
+      small = reached-at-most h shape
 
-      by : (b : Bool) → leZ (pos 0) d ≡ b → InPercent (side rule table n v d)
-      by true e = rw (side-inside e) (itself (reached rule table n v d) small)
-      by false e = rw (side-outside e) (rest (reached rule table n v d) small)
+      by : (b : Bool) → leZ (pos 0) d ≡ b → InPercent (side rule column n v d)
+      by true e = rw (side-inside e) (itself (reached rule column n v d) small)
+      by false e = rw (side-outside e) (rest (reached rule column n v d) small)
 
-module _ (rule : Rule) (table : Table) (a : Totals) (rows : (v d : ℤ) → pos 0 <ℤ v → rule (a .n) v d ≤ last-row) (column : Column (table (a .n))) where
-  pub upper-side-in-percent : (upper : Limit) → InPercent (upper-side rule table a upper)
+module _ (rule : Rule) (column : List ℕ) (a : Totals) (rows : (v d : ℤ) → pos 0 <ℤ v → rule (a .n) v d ≤ last-row) (shape : Column column) where
+  pub upper-side-in-percent : (upper : Limit) → InPercent (upper-side rule column a upper)
   unfolding upper-side
   upper-side-in-percent Absent = itself 10000 (le-refl 10000)
-  upper-side-in-percent (At u) = side-in-percent rule table (a .n) (spread a) (upper-distance a (u .0)) (rows _ _) column
+  upper-side-in-percent (At u) = side-in-percent rule column (a .n) (spread a) (upper-distance a (u .0)) (rows _ _) shape
 
-  pub lower-side-in-percent : (lower : Limit) → InPercent (lower-side rule table a lower)
+  pub lower-side-in-percent : (lower : Limit) → InPercent (lower-side rule column a lower)
   unfolding lower-side
   lower-side-in-percent Absent = itself 10000 (le-refl 10000)
-  lower-side-in-percent (At l) = side-in-percent rule table (a .n) (spread a) (lower-distance a (l .0)) (rows _ _) column
+  lower-side-in-percent (At l) = side-in-percent rule column (a .n) (spread a) (lower-distance a (l .0)) (rows _ _) shape

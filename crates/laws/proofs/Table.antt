@@ -8,7 +8,7 @@ use native.Mathlib.Omega.{arith}
 use lib.Dec.{T, leb, eqb, leb→le, eqb→eq}
 use lib.Ieee.Fits.{and-l, and-r}
 use lib.ListN.{length, getD}
-use Rattle.rules.specs.Table.{rows, table-106-1, entry, last-row, rises-from, well-formed, column-four}
+use Rattle.rules.specs.Table.{rows, table-106-1, entries, entry, last-row, rises-from, well-formed, column-four}
 use Rattle.laws.specs.Column.{Column}
 use Rattle.laws.proofs.Each.{each, each-at}
 
@@ -48,20 +48,20 @@ pub entry-at-most : {xs : List ℕ} {k : ℕ} → Column xs → k ≤ last-row �
 entry-at-most {xs} {k} column h = omega (arith, column .never-falls k last-row h (le-refl last-row), column .ends)
 
 -- One test over the whole table: columns n = 2 to 10.
-pub whole-table : T (each (λ n. well-formed (table-106-1 n)) 9 2)
+pub whole-table : T (each (λ n. well-formed (entries (table-106-1 n))) 9 2)
 unfolding rows table-106-1
 whole-table = tt
 
 -- Every column of Table 106-1 starts at 50.00, never falls and ends at 100.00.
-pub table-106-1-column : (n : ℕ) → 2 ≤ n → n ≤ 10 → Column (table-106-1 n)
+pub table-106-1-column : (n : ℕ) → 2 ≤ n → n ≤ 10 → Column (entries (table-106-1 n))
 table-106-1-column n low high =
-    column (table-106-1 n) (each-at (λ m. well-formed (table-106-1 m)) 9 2 whole-table n low (omega arith))
+    column (entries (table-106-1 n)) (each-at (λ m. well-formed (entries (table-106-1 m))) 9 2 whole-table n low (omega arith))
 
 -- Column n = 4 is what its formula says, at each of the 54 rows.
-fourth-column : T (each (λ k. eqb (entry table-106-1 4 k) (column-four k)) (suc last-row) 0)
+fourth-column : T (each (λ k. eqb (entry (entries (table-106-1 4)) k) (column-four k)) (suc last-row) 0)
 unfolding rows table-106-1
 fourth-column = tt
 
-pub table-106-1-four : (k : ℕ) → k ≤ last-row → entry table-106-1 4 k ≡ column-four k
+pub table-106-1-four : (k : ℕ) → k ≤ last-row → entry (entries (table-106-1 4)) k ≡ column-four k
 table-106-1-four k h =
-    eqb→eq _ _ (each-at (λ m. eqb (entry table-106-1 4 m) (column-four m)) (suc last-row) 0 fourth-column k (omega arith) (omega arith))
+    eqb→eq _ _ (each-at (λ m. eqb (entry (entries (table-106-1 4)) m) (column-four m)) (suc last-row) 0 fourth-column k (omega arith) (omega arith))

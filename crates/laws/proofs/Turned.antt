@@ -12,7 +12,7 @@ use Rattle.rules.specs.declared.Percentages.{Percentages}
 use Rattle.rules.specs.Units.{in-range, hundredths}
 use Rattle.rules.specs.Said.{Said, refused, answers, Case, ruled, checked}
 use Rattle.rules.specs.Lot.{Lot}
-use Rattle.rules.specs.Table.{Table}
+use Rattle.rules.specs.Table.{Found, entries}
 use Rattle.rules.specs.Percent.{Rule, totals, side, upper-side, lower-side}
 use Rattle.rules.specs.Refusals.{out-of-range, any-out, none, crossed}
 use Rattle.rules.specs.Meets.{evaluation-meets}
@@ -62,25 +62,25 @@ meets-turned lot =
 
 -- ---- the percentages
 
-module _ (rule : Rule) (table : Table) (n : ℕ) (xs : List ℤ) where
-  upper-side-turned : (lower : Limit) → upper-side rule table (totals n (map negℤ xs)) (turned-limit lower) ≡ lower-side rule table (totals n xs) lower
+module _ (rule : Rule) (column : List ℕ) (n : ℕ) (xs : List ℤ) where
+  upper-side-turned : (lower : Limit) → upper-side rule column (totals n (map negℤ xs)) (turned-limit lower) ≡ lower-side rule column (totals n xs) lower
   unfolding upper-side lower-side
   upper-side-turned Absent = refl
-  upper-side-turned (At l) = ap₂ (side rule table n) (spread-turned n xs) (upper-distance-turned n xs (l .0))
+  upper-side-turned (At l) = ap₂ (side rule column n) (spread-turned n xs) (upper-distance-turned n xs (l .0))
 
-  lower-side-turned : (upper : Limit) → lower-side rule table (totals n (map negℤ xs)) (turned-limit upper) ≡ upper-side rule table (totals n xs) upper
+  lower-side-turned : (upper : Limit) → lower-side rule column (totals n (map negℤ xs)) (turned-limit upper) ≡ upper-side rule column (totals n xs) upper
   unfolding upper-side lower-side
   lower-side-turned Absent = refl
-  lower-side-turned (At u) = ap₂ (side rule table n) (spread-turned n xs) (lower-distance-turned n xs (u .0))
+  lower-side-turned (At u) = ap₂ (side rule column n) (spread-turned n xs) (lower-distance-turned n xs (u .0))
 
-percentages-turned : (rule : Rule) (table : Table) (lot : Lot) → percentages rule table (turned lot) ≡ swapped (percentages rule table lot)
+percentages-turned : (rule : Rule) (column : List ℕ) (lot : Lot) → percentages rule column (turned lot) ≡ swapped (percentages rule column lot)
 unfolding percentages-of
-percentages-turned rule table lot =
-    let p : Percentages = percentages rule table lot in
-    let u = upper-side-turned rule table (lot .n) (lot .readings) (lot .lower) in
-    let l = lower-side-turned rule table (lot .n) (lot .readings) (lot .upper) in
+percentages-turned rule column lot =
+    let p : Percentages = percentages rule column lot in
+    let u = upper-side-turned rule column (lot .n) (lot .readings) (lot .lower) in
+    let l = lower-side-turned rule column (lot .n) (lot .readings) (lot .upper) in
     let sum = ap₂ _+ℤ_ u l ∙ +ℤ-comm (p .lower .0) (p .upper .0) in
-    let pwl = no-clamp rule table (turned lot) ∙ ap (λ (z : ℤ). z -ℤ pos 10000) sum ∙ sym (no-clamp rule table lot) in
+    let pwl = no-clamp rule column (turned lot) ∙ ap (λ (z : ℤ). z -ℤ pos 10000) sum ∙ sym (no-clamp rule column lot) in
     λ i. record { upper = hundredths (u i); lower = hundredths (l i); pwl = hundredths (pwl i) }
 
 -- ---- the law
@@ -90,13 +90,13 @@ ruled-swapped : (cases : List Case) (p : Percentages) → ruled cases (swapped p
 ruled-swapped cases p = ruled-given cases (swapped p) ∙ by (checked cases) ∙ sym (ap said-swapped (ruled-given cases p))
   where
     by : (s : Said (Unit {0})) → given (swapped p) s ≡ said-swapped (given p s)
-    by (refused k) = refl
+    by (refused r) = refl
     by (answers u) = refl
 
--- Turning about zero swaps the sides, the PWL stays and a refusal stays the same refusal: of every lot, by any rule for rows and any table.
+-- Turning about zero swaps the sides, the PWL stays and a refusal stays the same refusal: of every lot, by any rule for rows and whatever is found.
 pub turning-swaps-sides :
-    (rule : Rule) (table : Table) (lot : Lot) →
-    evaluated rule table (turned lot) ≡ said-swapped (evaluated rule table lot)
+    (rule : Rule) (found : Found) (lot : Lot) →
+    evaluated rule found (turned lot) ≡ said-swapped (evaluated rule found lot)
 unfolding evaluated
-turning-swaps-sides rule table lot =
-    ap₂ (λ (cases : List Case) (p : Percentages). ruled cases p) (meets-turned lot) (percentages-turned rule table lot) ∙ ruled-swapped (evaluation-meets lot) (percentages rule table lot)
+turning-swaps-sides rule found lot =
+    ap₂ (λ (cases : List Case) (p : Percentages). ruled cases p) (meets-turned lot) (percentages-turned rule (entries found) lot) ∙ ruled-swapped (evaluation-meets lot) (percentages rule (entries found) lot)

@@ -7,10 +7,9 @@ use Rattle.rules.specs.declared.Limit.{Limit}
 use Rattle.rules.specs.declared.HeldLot.{HeldLot}
 use Rattle.rules.specs.declared.Evaluation.{Evaluation}
 use Rattle.rules.specs.Lot.{Lot, lot-of, lot-in}
-use Rattle.rules.specs.Table.{table-106-1}
 use Rattle.rules.specs.Percent.{nearest}
 use Rattle.rules.specs.Answers.{evaluation-said}
-use Rattle.rules.specs.Entries.{evaluation-says}
+use Rattle.rules.specs.Entries.{column-for, evaluation-says}
 use Rattle.laws.specs.Turned.{turned-limit, turned, turned-held, said-swapped, answer-swapped}
 use Rattle.laws.proofs.Answers.{evaluation-injective}
 use Rattle.laws.proofs.Turned.{turning-swaps-sides}
@@ -20,7 +19,7 @@ of-lots : (lot other : Lot) (r q : Evaluation) → other ≡ turned lot → eval
 unfolding evaluation-says
 of-lots lot other r q same e f =
     evaluation-injective q (answer-swapped r)
-    (f ∙ ap evaluation-says same ∙ turning-swaps-sides nearest table-106-1 lot ∙ ap said-swapped (sym e) ∙ by r)
+    (f ∙ ap evaluation-says same ∙ turning-swaps-sides nearest (column-for lot) lot ∙ ap said-swapped (sym e) ∙ by r)
   where
     by : (a : Evaluation) → said-swapped (evaluation-said a) ≡ evaluation-said (answer-swapped a)
     by (Evaluation.Answers p) = refl

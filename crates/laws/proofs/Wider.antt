@@ -1,5 +1,7 @@
 -- Wider limits never lower the percentage: V above 0, V = 0 and absent limits together.
 use mathlib.Core.Path.{_≡_, sym}
+use mathlib.Core.List.{List}
+use Prim.Native.Nat.{ℕ}
 use lib.IntN.{ℤ, pos}
 use lib.Signed.{_≤ℤ_, ≤ℤ-refl}
 use Rattle.integers.proofs.Order.{+ℤ-mono, -ℤ-mono, *ℤ-mono-l}
@@ -9,7 +11,7 @@ use Rattle.rules.specs.declared.Percentages.{Percentages}
 use Rattle.rules.specs.declared.Totals.{Totals}
 use Rattle.rules.specs.Said.{answers}
 use Rattle.rules.specs.Lot.{Lot}
-use Rattle.rules.specs.Table.{Table}
+use Rattle.rules.specs.Table.{Found, entries}
 use Rattle.rules.specs.Percent.{Rule, totals, spread, upper-distance, lower-distance, upper-side, lower-side}
 use Rattle.rules.specs.Entries.{percentages-of, evaluated}
 use Rattle.laws.specs.Column.{Column}
@@ -38,33 +40,33 @@ unfolding lower-distance
 lower-no-nearer a l w h = -ℤ-mono (≤ℤ-refl (a .t)) (*ℤ-mono-l (a .n) h)
 
 -- Each side by itself, of any n, T and Z.
-module _ (rule : Rule) (table : Table) (a : Totals) (rows : RowRule rule (a .n)) (column : Column (table (a .n))) where
-  upper-not-lower : (upper wide : Limit) → UpperAsWide upper wide → upper-side rule table a upper ≤ℤ upper-side rule table a wide
+module _ (rule : Rule) (column : List ℕ) (a : Totals) (rows : RowRule rule (a .n)) (shape : Column column) where
+  upper-not-lower : (upper wide : Limit) → UpperAsWide upper wide → upper-side rule column a upper ≤ℤ upper-side rule column a wide
   unfolding upper-side
-  upper-not-lower upper Absent h = upper-side-in-percent rule table a (rows .in-table) column upper .high
+  upper-not-lower upper Absent h = upper-side-in-percent rule column a (rows .in-table) shape upper .high
   upper-not-lower Absent (At w) h = absurd h
-  upper-not-lower (At u) (At w) h = side-never-falls rule table (a .n) rows column (spread a) _ _ (upper-no-nearer a (u .0) (w .0) h)
+  upper-not-lower (At u) (At w) h = side-never-falls rule column (a .n) rows shape (spread a) _ _ (upper-no-nearer a (u .0) (w .0) h)
 
-  lower-not-lower : (lower wide : Limit) → LowerAsWide lower wide → lower-side rule table a lower ≤ℤ lower-side rule table a wide
+  lower-not-lower : (lower wide : Limit) → LowerAsWide lower wide → lower-side rule column a lower ≤ℤ lower-side rule column a wide
   unfolding lower-side
-  lower-not-lower lower Absent h = lower-side-in-percent rule table a (rows .in-table) column lower .high
+  lower-not-lower lower Absent h = lower-side-in-percent rule column a (rows .in-table) shape lower .high
   lower-not-lower Absent (At w) h = absurd h
-  lower-not-lower (At l) (At w) h = side-never-falls rule table (a .n) rows column (spread a) _ _ (lower-no-nearer a (l .0) (w .0) h)
+  lower-not-lower (At l) (At w) h = side-never-falls rule column (a .n) rows shape (spread a) _ _ (lower-no-nearer a (l .0) (w .0) h)
 
 -- Wider limits never lower the percentage: the same readings under two pairs of limits that are both answered, the second at least as
 -- wide on each side; neither side is lower, nor is the PWL, by any rule and column that are what is asked of them.
 pub wider-is-not-lower :
-    (rule : Rule) (table : Table) (lot : Lot) (upper lower : Limit) (p q : Percentages) →
-    RowRule rule (lot .n) → Column (table (lot .n)) →
+    (rule : Rule) (found : Found) (lot : Lot) (upper lower : Limit) (p q : Percentages) →
+    RowRule rule (lot .n) → Column (entries found) →
     UpperAsWide (lot .upper) upper → LowerAsWide (lot .lower) lower →
-    evaluated rule table lot ≡ answers p →
-    evaluated rule table (with-limits upper lower lot) ≡ answers q →
+    evaluated rule found lot ≡ answers p →
+    evaluated rule found (with-limits upper lower lot) ≡ answers q →
     (p .upper .0 ≤ℤ q .upper .0) × (p .lower .0 ≤ℤ q .lower .0) × (p .pwl .0 ≤ℤ q .pwl .0)
 unfolding percentages-of
-wider-is-not-lower rule table lot upper lower p q rows column wider-above wider-below e f =
+wider-is-not-lower rule found lot upper lower p q rows shape wider-above wider-below e f =
     let wide : Lot = with-limits upper lower lot in
     let a : Totals = totals (lot .n) (lot .readings) in
-    let u = upper-not-lower rule table a rows column (lot .upper) upper wider-above in
-    let l = lower-not-lower rule table a rows column (lot .lower) lower wider-below in
-    rw (sym (answered rule table lot p e .1), sym (answered rule table wide q f .1))
-    (u, l, rw (no-clamp rule table lot, no-clamp rule table wide) (-ℤ-mono (+ℤ-mono u l) (≤ℤ-refl (pos 10000))))
+    let u = upper-not-lower rule (entries found) a rows shape (lot .upper) upper wider-above in
+    let l = lower-not-lower rule (entries found) a rows shape (lot .lower) lower wider-below in
+    rw (sym (answered rule found lot p e .1), sym (answered rule found wide q f .1))
+    (u, l, rw (no-clamp rule (entries found) lot, no-clamp rule (entries found) wide) (-ℤ-mono (+ℤ-mono u l) (≤ℤ-refl (pos 10000))))

@@ -7,7 +7,7 @@ use Rattle.rules.specs.declared.Percentages.{Percentages}
 use Rattle.rules.specs.declared.Payment.{Payment}
 use Rattle.rules.specs.Said.{answers}
 use Rattle.rules.specs.Lot.{Lot}
-use Rattle.rules.specs.Table.{Table}
+use Rattle.rules.specs.Table.{Found, entries}
 use Rattle.rules.specs.Percent.{Rule}
 use Rattle.rules.specs.Pay.{factor}
 use Rattle.rules.specs.Meets.{pay-meets}
@@ -53,28 +53,28 @@ percentages-are-paid-alike density pwl pwl′ x y price quantity h k =
 -- Wider limits never lower the factor or the pay: the same readings of one characteristic under two pairs of limits that are both
 -- answered, the second at least as wide on each side, with the other two percentages, price and quantity the same.
 pub wider-is-not-paid-less :
-    (rule : Rule) (table : Table) (lot : Lot) (upper lower : Limit) (p q : Percentages) →
+    (rule : Rule) (found : Found) (lot : Lot) (upper lower : Limit) (p q : Percentages) →
     (which : Characteristic) (other another price quantity : ℤ) (a b : Payment) →
-    RowRule rule (lot .n) → Column (table (lot .n)) →
+    RowRule rule (lot .n) → Column (entries found) →
     UpperAsWide (lot .upper) upper → LowerAsWide (lot .lower) lower →
-    evaluated rule table lot ≡ answers p →
-    evaluated rule table (with-limits upper lower lot) ≡ answers q →
+    evaluated rule found lot ≡ answers p →
+    evaluated rule found (with-limits upper lower lot) ≡ answers q →
     pay-says-of which (p .pwl .0) other another price quantity ≡ answers a →
     pay-says-of which (q .pwl .0) other another price quantity ≡ answers b →
     (factor (p .pwl .0) ≤ℤ factor (q .pwl .0)) × (a .composite .0 ≤ℤ b .composite .0) × (a .pay .0 ≤ℤ b .pay .0)
-wider-is-not-paid-less rule table lot upper lower p q which x y price quantity a b rows column above below e f g k =
-    let h : p .pwl .0 ≤ℤ q .pwl .0 = wider-is-not-lower rule table lot upper lower p q rows column above below e f .2 in
+wider-is-not-paid-less rule found lot upper lower p q which x y price quantity a b rows shape above below e f g k =
+    let h : p .pwl .0 ≤ℤ q .pwl .0 = wider-is-not-lower rule found lot upper lower p q rows shape above below e f .2 in
     let paid = higher-is-not-paid-less which (p .pwl .0) (q .pwl .0) x y price quantity a b h g k in
     (factor-is-not-lower h, paid .0, paid .1)
 
 -- No limits that are answered bring a refusal of pay where others brought none.
 pub limits-are-paid-alike :
-    (rule : Rule) (table : Table) (lot : Lot) (upper lower : Limit) (p q : Percentages) →
+    (rule : Rule) (found : Found) (lot : Lot) (upper lower : Limit) (p q : Percentages) →
     (which : Characteristic) (other another price quantity : ℤ) →
-    RowRule rule (lot .n) → Column (table (lot .n)) →
-    evaluated rule table lot ≡ answers p →
-    evaluated rule table (with-limits upper lower lot) ≡ answers q →
+    RowRule rule (lot .n) → Column (entries found) →
+    evaluated rule found lot ≡ answers p →
+    evaluated rule found (with-limits upper lower lot) ≡ answers q →
     bare (pay-says-of which (p .pwl .0) other another price quantity) ≡ bare (pay-says-of which (q .pwl .0) other another price quantity)
-limits-are-paid-alike rule table lot upper lower p q which x y price quantity rows column e f =
-    percentages-are-paid-alike which (p .pwl .0) (q .pwl .0) x y price quantity (pwl-in-percent rule table lot p rows column e)
-    (pwl-in-percent rule table (with-limits upper lower lot) q rows column f)
+limits-are-paid-alike rule found lot upper lower p q which x y price quantity rows shape e f =
+    percentages-are-paid-alike which (p .pwl .0) (q .pwl .0) x y price quantity (pwl-in-percent rule found lot p rows shape e)
+    (pwl-in-percent rule found (with-limits upper lower lot) q rows shape f)

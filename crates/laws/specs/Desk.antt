@@ -28,7 +28,7 @@ abbrev pub at : ℕ → Limit
 at z = At (thousandths (pos z))
 
 abbrev pub Answered : (Percentages → Type 0) → Said Percentages → Type 0
-Answered P (refused k) = ⊥
+Answered P (refused r) = ⊥
 Answered P (answers p) = P p
 
 abbrev pub Holds : Example → Type 0

@@ -1,5 +1,6 @@
 pub mod Every
 pub mod Column
+pub mod ColumnIn
 pub mod RowRule
 pub mod Between
 pub mod InPercent
@@ -18,4 +19,3 @@ pub mod Taken
 pub mod Bytes
 pub mod Head
 pub mod Desk
-pub mod Lent

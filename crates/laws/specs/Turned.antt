@@ -41,7 +41,7 @@ swapped p = record { upper = p .lower; lower = p .upper; pwl = p .pwl }
 
 -- A refusal stays the same refusal.
 abbrev pub said-swapped : Said Percentages → Said Percentages
-said-swapped (refused k) = refused k
+said-swapped (refused r) = refused r
 said-swapped (answers p) = answers (swapped p)
 
 abbrev pub answer-swapped : Evaluation → Evaluation

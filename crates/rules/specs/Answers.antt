@@ -1,6 +1,8 @@
--- The paper's number and values for each case of each answer.
+-- The paper's refusal or values for each case of each answer.
 use Prim.Native.Nat.{ℕ}
 use Rattle.rules.specs.declared.Thousandths.{Thousandths}
+use Rattle.rules.specs.declared.Totals.{Totals}
+use Rattle.rules.specs.declared.TotalsAnswer.{TotalsAnswer}
 use Rattle.rules.specs.declared.Mean.{Mean}
 use Rattle.rules.specs.declared.MeanAnswer.{MeanAnswer}
 use Rattle.rules.specs.declared.DeviationAnswer.{DeviationAnswer}
@@ -16,32 +18,35 @@ use Rattle.rules.specs.declared.ReadAnswer.{ReadAnswer}
 use Rattle.rules.specs.declared.WriteAnswer.{WriteAnswer}
 use Rattle.rules.specs.declared.Row.{Row}
 use Rattle.rules.specs.declared.RowAnswer.{RowAnswer}
-use Rattle.rules.specs.Said.{Said, answers}
-use Rattle.rules.specs.Refusals.{told}
+use Rattle.rules.specs.Said.{Said, refused, answers}
+
+abbrev pub totals-said : TotalsAnswer → Said Totals
+totals-said (TotalsAnswer.Answers a) = answers a
+totals-said (TotalsAnswer.Refused r) = refused r
 
 abbrev pub mean-said : MeanAnswer → Said Mean
 mean-said (MeanAnswer.Answers m) = answers m
-mean-said (MeanAnswer.Refused r) = told r
+mean-said (MeanAnswer.Refused r) = refused r
 
 abbrev pub deviation-said : DeviationAnswer → Said Thousandths
 deviation-said (DeviationAnswer.Answers s) = answers s
-deviation-said (DeviationAnswer.Refused r) = told r
+deviation-said (DeviationAnswer.Refused r) = refused r
 
 abbrev pub evaluation-said : Evaluation → Said Percentages
 evaluation-said (Evaluation.Answers p) = answers p
-evaluation-said (Evaluation.Refused r) = told r
+evaluation-said (Evaluation.Refused r) = refused r
 
 abbrev pub pay-said : PayAnswer → Said Payment
 pay-said (PayAnswer.Answers p) = answers p
-pay-said (PayAnswer.Refused r) = told r
+pay-said (PayAnswer.Refused r) = refused r
 
 abbrev pub mixture-said : MixtureAnswer → Said MixtureLimits
 mixture-said (MixtureAnswer.Answers l) = answers l
-mixture-said (MixtureAnswer.Refused r) = told r
+mixture-said (MixtureAnswer.Refused r) = refused r
 
 abbrev pub outcome-said : Outcome → Said (Unit {0})
 outcome-said Outcome.Answers = answers tt
-outcome-said (Outcome.Refused r) = told r
+outcome-said (Outcome.Refused r) = refused r
 
 -- a lot that was read, beside what is said of it
 pub record ReadSaid : Type 0 where
@@ -53,8 +58,8 @@ read-said r = record { said = outcome-said (r .said); lot = r .lot }
 
 abbrev pub write-said : WriteAnswer → Said ℕ
 write-said (WriteAnswer.Answers size) = answers size
-write-said (WriteAnswer.Refused r) = told r
+write-said (WriteAnswer.Refused r) = refused r
 
 abbrev pub row-said : RowAnswer → Said Row
 row-said (RowAnswer.Answers row) = answers row
-row-said (RowAnswer.Refused r) = told r
+row-said (RowAnswer.Refused r) = refused r

@@ -1,4 +1,4 @@
--- What each entry says, for whatever comes in: the lowest refusal that applies of those that it can meet, else its values.
+-- What each entry says, for whatever comes in: the first refusal that applies of those that it can meet, else its values.
 use mathlib.Core.List.{List, _++_, map}
 use Prim.Native.Nat.{ℕ, _-_}
 use lib.IntN.{ℤ, pos}
@@ -16,15 +16,33 @@ use Rattle.rules.specs.declared.Row.{Row}
 use Rattle.rules.specs.Units.{thousandths, hundredths}
 use Rattle.rules.specs.Said.{Said, refused, answers, ruled}
 use Rattle.rules.specs.Lot.{Lot, most}
-use Rattle.rules.specs.Table.{Table, table-106-1}
+use Rattle.rules.specs.Table.{Found, table-106-1, entries}
 use Rattle.rules.specs.Percent.{Rule, nearest, totals, sum, spread, upper-side, lower-side, within}
 use Rattle.rules.specs.Deviation.{deviation}
 use Rattle.rules.specs.Pay.{payment}
 use Rattle.rules.specs.Mixture.{mixture-limits}
 use Rattle.rules.specs.Record.{lot-of-record, record-of}
-use Rattle.rules.specs.Meets.{readings-meet, evaluation-meets, row-meets, read-meets, write-meets, pay-meets, mixture-meets}
+use Rattle.rules.specs.Meets.{readings-meet, counted-meets, evaluation-meets, row-meets, read-meets, write-meets, pay-meets, mixture-meets}
 use Rattle.rules.specs.Notebook.{lent-lot, row-of}
 use Rattle.rules.specs.Answers.{ReadSaid}
+
+-- ---- n, T and Z
+
+unfoldable pub totals-says : List ℤ → Said Totals
+totals-says xs = ruled (readings-meet xs) (totals (length xs) xs)
+
+-- of a lot
+abbrev pub lot-totals : Lot → Totals
+lot-totals lot = totals (lot .n) (lot .readings)
+
+unfoldable pub lot-totals-says : Lot → Said Totals
+lot-totals-says lot = ruled (counted-meets lot) (lot-totals lot)
+
+-- of one whose readings come as bytes
+unfoldable pub row-totals-says : Limit → Limit → List ℕ → Said Totals
+row-totals-says upper lower bs =
+    let lot : Lot = lent-lot upper lower bs in
+    ruled (row-meets bs lot) (lot-totals lot)
 
 -- ---- mean and deviation
 
@@ -40,22 +58,27 @@ deviation-says xs = ruled (readings-meet xs) (thousandths (deviation-of (length 
 
 -- ---- direct evaluation
 
-module _ (rule : Rule) (table : Table) where
+-- What is found for a lot, at the door of each entry that is asked for a percentage: Table 106-1's column for its count, or none.
+abbrev pub column-for : Lot → Found
+column-for lot = table-106-1 (lot .n)
+
+module _ (rule : Rule) (column : List ℕ) where
   -- both sides and PWL, of n, T and Z and two limits
   unfoldable pub percentages-of : Totals → Limit → Limit → Percentages
   percentages-of a upper lower =
-      let u : ℤ = upper-side rule table a upper in
-      let l : ℤ = lower-side rule table a lower in
+      let u : ℤ = upper-side rule column a upper in
+      let l : ℤ = lower-side rule column a lower in
       record { upper = hundredths u; lower = hundredths l; pwl = hundredths (within u l) }
 
   abbrev pub percentages : Lot → Percentages
-  percentages lot = percentages-of (totals (lot .n) (lot .readings)) (lot .upper) (lot .lower)
+  percentages lot = percentages-of (lot-totals lot) (lot .upper) (lot .lower)
 
-  unfoldable pub evaluated : Lot → Said Percentages
-  evaluated lot = ruled (evaluation-meets lot) (percentages lot)
+-- by a rule for rows, and by what is found for the lot
+unfoldable pub evaluated : Rule → Found → Lot → Said Percentages
+evaluated rule found lot = ruled (evaluation-meets lot) (percentages rule (entries found) lot)
 
 unfoldable pub evaluation-says : Lot → Said Percentages
-evaluation-says lot = evaluated nearest table-106-1 lot
+evaluation-says lot = evaluated nearest (column-for lot) lot
 
 -- ---- the lot record
 
@@ -64,7 +87,7 @@ read-says bs = ruled (read-meets bs) (lot-of-record bs)
 
 -- The lot in memory beside it: zeros in the places past its readings, and one blank lot where the record is refused.
 unfoldable pub held : Said Lot → HeldLot
-held (refused k) = record { upper = Absent; lower = Absent; count = 0; readings = replicate most (thousandths (pos 0)) }
+held (refused r) = record { upper = Absent; lower = Absent; count = 0; readings = replicate most (thousandths (pos 0)) }
 held (answers lot) =
     record {
       upper = lot .upper;
@@ -74,7 +97,7 @@ held (answers lot) =
     }
 
 abbrev pub bare : {A : Type 0} → Said A → Said (Unit {0})
-bare (refused k) = refused k
+bare (refused r) = refused r
 bare (answers a) = answers tt
 
 -- whether it was read, or the refusal, beside that lot
@@ -90,7 +113,7 @@ write-says lot out = ruled (write-meets lot (length out)) (length (record-of lot
 
 -- A lent list after a write: as before where it is refused, else what was to be written and then the old rest.
 unfoldable pub written : {A B : Type 0} → List A → List A → Said B → List A
-written new out (refused k) = out
+written new out (refused r) = out
 written new out (answers b) = new ++ drop (length new) out
 
 abbrev pub after-write : Lot → List ℕ → List ℕ
@@ -113,4 +136,4 @@ row-says upper lower bs =
     let lot : Lot = lent-lot upper lower bs in
     ruled (row-meets bs lot)
     (row-of (sum (lot .readings)) (lot .n) (deviation-of (lot .n) (lot .readings))
-    (percentages nearest table-106-1 lot .pwl .0))
+    (percentages nearest (entries (column-for lot)) lot .pwl .0))

@@ -1,5 +1,5 @@
--- In the manner of document 01's notebook, for every other entry: what a host is given in plain numbers. The refusal's number stands first, 0 for none;
--- of what is refused every other number is 0.
+-- In the manner of document 01's notebook, for every other entry: what a host is given in plain numbers. The refusal stands first; of what is
+-- refused every other number is 0.
 use mathlib.Core.List.{[], _∷_, map}
 use Prim.Native.Nat.{ℕ}
 use lib.IntN.{pos}
@@ -15,6 +15,8 @@ use Rattle.rules.specs.declared.Verdict.the-variants.{Accepted, Rejected
 use Rattle.rules.specs.declared.Payment.{Payment}
 use Rattle.rules.specs.declared.Limits.{Limits}
 use Rattle.rules.specs.declared.MixtureLimits.{MixtureLimits}
+use Rattle.rules.specs.declared.Refusal.{Refusal}
+use Rattle.rules.specs.declared.host.HostRefusal.{HostRefusal}
 use Rattle.rules.specs.declared.host.HostLimit.{HostLimit}
 use Rattle.rules.specs.declared.host.HostLot.{HostLot}
 use Rattle.rules.specs.declared.host.HostMean.{HostMean}
@@ -28,20 +30,32 @@ use Rattle.rules.specs.declared.host.HostWritten.{HostWritten}
 use Rattle.rules.specs.Units.{thousandths}
 use Rattle.rules.specs.Said.{Said, refused, answers}
 use Rattle.rules.specs.Lot.{places}
-use Rattle.rules.specs.Notebook.{lent-limit, refusal-asked}
+use Rattle.rules.specs.Refusals.{number-of}
+use Rattle.rules.specs.Notebook.{lent-limit}
 use Rattle.rules.specs.Answers.{ReadSaid}
 
+-- The part with which every answer begins: the refusal's number, 0 for none.
+abbrev pub refusal-part : Refusal → HostRefusal
+refusal-part r = record { number = number-of r }
+
+abbrev pub no-refusal : HostRefusal
+no-refusal = record { number = 0 }
+
+abbrev pub host-refusal : {A : Type 0} → Said A → HostRefusal
+host-refusal (refused r) = refusal-part r
+host-refusal (answers a) = no-refusal
+
 abbrev pub host-mean : Said Mean → HostMean
-host-mean (refused k) = record { refusal = k; total = pos 0; count = 0 }
-host-mean (answers m) = record { refusal = 0; total = m .total .0; count = m .count }
+host-mean (refused r) = record { refusal = refusal-part r; total = pos 0; count = 0 }
+host-mean (answers m) = record { refusal = no-refusal; total = m .total .0; count = m .count }
 
 abbrev pub host-deviation : Said Thousandths → HostDeviation
-host-deviation (refused k) = record { refusal = k; deviation = pos 0 }
-host-deviation (answers s) = record { refusal = 0; deviation = s .0 }
+host-deviation (refused r) = record { refusal = refusal-part r; deviation = pos 0 }
+host-deviation (answers s) = record { refusal = no-refusal; deviation = s .0 }
 
 abbrev pub host-percentages : Said Percentages → HostPercentages
-host-percentages (refused k) = record { refusal = k; upper = pos 0; lower = pos 0; pwl = pos 0 }
-host-percentages (answers p) = record { refusal = 0; upper = p .upper .0; lower = p .lower .0; pwl = p .pwl .0 }
+host-percentages (refused r) = record { refusal = refusal-part r; upper = pos 0; lower = pos 0; pwl = pos 0 }
+host-percentages (answers p) = record { refusal = no-refusal; upper = p .upper .0; lower = p .lower .0; pwl = p .pwl .0 }
 
 -- a verdict's number: 0 accepted, 1 rejected
 abbrev pub verdict-number : Verdict → ℕ
@@ -49,11 +63,11 @@ verdict-number Accepted = 0
 verdict-number Rejected = 1
 
 abbrev pub host-payment : Said Payment → HostPayment
-host-payment (refused k) =
-    record { refusal = k; composite = pos 0; vma = 0; voids = 0; density = 0; lot = 0; pay = pos 0 }
+host-payment (refused r) =
+    record { refusal = refusal-part r; composite = pos 0; vma = 0; voids = 0; density = 0; lot = 0; pay = pos 0 }
 host-payment (answers p) =
     record {
-      refusal = 0;
+      refusal = no-refusal;
       composite = p .composite .0;
       vma = verdict-number (p .vma);
       voids = verdict-number (p .voids);
@@ -66,11 +80,11 @@ abbrev pub host-pair : Limits → HostPair
 host-pair l = record { lower = l .lower .0; upper = l .upper .0 }
 
 abbrev pub host-mixture-limits : Said MixtureLimits → HostMixtureLimits
-host-mixture-limits (refused k) =
+host-mixture-limits (refused r) =
     let none : HostPair = record { lower = pos 0; upper = pos 0 } in
-    record { refusal = k; vma = none; voids = none; density = none }
+    record { refusal = refusal-part r; vma = none; voids = none; density = none }
 host-mixture-limits (answers l) =
-    record { refusal = 0; vma = host-pair (l .vma); voids = host-pair (l .voids); density = host-pair (l .density) }
+    record { refusal = no-refusal; vma = host-pair (l .vma); voids = host-pair (l .voids); density = host-pair (l .density) }
 
 -- ---- a lot, both ways
 
@@ -115,8 +129,8 @@ host-lot held =
 
 -- The blank lot that a refused read leaves has nothing but zeros.
 abbrev pub host-read : ReadSaid → HostRead
-host-read r = record { refusal = refusal-asked (r .said); lot = host-lot (r .lot) }
+host-read r = record { refusal = host-refusal (r .said); lot = host-lot (r .lot) }
 
 abbrev pub host-written : Said ℕ → HostWritten
-host-written (refused k) = record { refusal = k; size = 0 }
-host-written (answers size) = record { refusal = 0; size = size }
+host-written (refused r) = record { refusal = refusal-part r; size = 0 }
+host-written (answers size) = record { refusal = no-refusal; size = size }

@@ -2,12 +2,12 @@
 pub mod Units
 pub mod Said
 pub mod Lot
+pub mod Record
 pub mod Table
 pub mod Percent
 pub mod Deviation
 pub mod Pay
 pub mod Mixture
-pub mod Record
 pub mod Refusals
 pub mod Meets
 pub mod Notebook

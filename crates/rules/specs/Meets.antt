@@ -1,4 +1,4 @@
--- Document 01, "Numbers of refusal": what each entry can meet, in the order of the numbers.
+-- Document 01, "Numbers of refusal": what each entry can meet, in the order in which it is looked for.
 use mathlib.Core.List.{List, [], _∷_, _++_}
 use Prim.Native.Nat.{ℕ}
 use lib.IntN.{ℤ}
@@ -21,9 +21,13 @@ lot-meets lot =
     crossed-case (lot .upper) (lot .lower) ∷
     []
 
+-- with its count: 4 to 7
+abbrev pub counted-meets : Lot → List Case
+counted-meets lot = count-case (lot .n) ∷ lot-meets lot
+
 -- direct evaluation: 4 to 7
 unfoldable pub evaluation-meets : Lot → List Case
-evaluation-meets lot = count-case (lot .n) ∷ lot-meets lot
+evaluation-meets lot = counted-meets lot
 
 -- the notebook's row, of readings as bytes: 4 to 7
 unfoldable pub row-meets : List ℕ → Lot → List Case
@@ -39,7 +43,7 @@ read-meets bs = head-meets bs ++ lot-meets (lot-of-record bs)
 
 -- writing: 4 to 8
 unfoldable pub write-meets : Lot → ℕ → List Case
-write-meets lot room = evaluation-meets lot ++ (room-case room (length (record-of lot)) ∷ [])
+write-meets lot room = counted-meets lot ++ (room-case room (length (record-of lot)) ∷ [])
 
 -- pay: 9
 unfoldable pub pay-meets : ℤ → ℤ → ℤ → ℤ → ℤ → List Case

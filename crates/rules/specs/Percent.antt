@@ -10,7 +10,7 @@ use Rattle.rules.specs.declared.Totals.{Totals}
 use Rattle.rules.specs.declared.Limit.{Limit}
 use Rattle.rules.specs.declared.Limit.the-variants.{Absent, At}
 use Rattle.rules.specs.Units.{hundred-percent}
-use Rattle.rules.specs.Table.{Table, entry, last-row}
+use Rattle.rules.specs.Table.{entry, last-row}
 
 -- T
 unfoldable pub sum : List ℤ → ℤ
@@ -63,11 +63,11 @@ Rule = ℕ → ℤ → ℤ → ℕ
 unfoldable pub nearest : Rule
 nearest n v d = largest (admits n v d) last-row
 
-module _ (rule : Rule) (table : Table) where
+module _ (rule : Rule) (column : List ℕ) where
   -- the percentage of a side, for V above 0 and for V = 0
   unfoldable pub side : ℕ → ℤ → ℤ → ℤ
   side n v d =
-      let e : ℤ = pos (entry table n (rule n v d)) in
+      let e : ℤ = pos (entry column (rule n v d)) in
       cond (ltZ (pos 0) v)
       (cond (leZ (pos 0) d) e (hundred-percent -ℤ e))
       (cond (leZ (pos 0) d) hundred-percent (pos 0))

@@ -24,6 +24,11 @@ unfoldable pub spell : ℕ → ℕ → List ℕ
 spell zero x = []
 spell (suc k) x = (x / 256 ^ k % 256) ∷ spell k x
 
+-- so many numbers of two bytes each
+unfoldable pub twos : ℕ → List ℕ → List ℕ
+twos zero bs = []
+twos (suc n) bs = spelled 0 (take 2 bs) ∷ twos n (drop 2 bs)
+
 -- four bytes, two's complement
 abbrev pub four : List ℕ → ℤ
 four bs = toZ w32 (spelled 0 bs)

@@ -12,11 +12,12 @@ use Rattle.rules.specs.declared.Pair.{Pair}
 use Rattle.rules.specs.declared.Refusal.{Refusal}
 use Rattle.rules.specs.declared.Refusal.the-variants.{Size, Version, Flags, Count, Range, Unlimited, Crossed, Room, Number}
 use Rattle.rules.specs.Units.{in-range, hundred-percent}
-use Rattle.rules.specs.Said.{Said, refused, Case}
+use Rattle.rules.specs.Said.{Case}
 use Rattle.rules.specs.Lot.{most}
 use Rattle.rules.specs.Record.{length-field, version-field, flags-field, n-field, upper-field, lower-field, has-upper, has-lower, head-size, length-of, spelled}
 use Rattle.rules.specs.Mixture.{vma-pair, voids-pair}
 
+-- its number
 abbrev pub number-of : Refusal → ℕ
 number-of Size = 1
 number-of Version = 2
@@ -28,11 +29,8 @@ number-of Crossed = 7
 number-of Room = 8
 number-of Number = 9
 
-abbrev pub told : {A : Type 0} → Refusal → Said A
-told refusal = refused (number-of refusal)
-
 abbrev pub given-when : Refusal → Bool → Case
-given-when refusal applies = record { number = number-of refusal; applies = applies }
+given-when refusal applies = record { refusal = refusal; applies = applies }
 
 -- 1: fewer than 13 bytes, or the length isn't the slice's size less 2
 abbrev pub size-case : List ℕ → Case

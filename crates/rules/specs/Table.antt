@@ -5,6 +5,7 @@ use mathlib.Core.List.{List, [], _∷_, map}
 use Prim.Native.Nat.{ℕ, suc, _+_, _-_, _*_, _/_}
 use lib.Dec.{leb, ltb, eqb}
 use lib.ListN.{getD, length}
+use Rattle.rules.specs.Record.{twos}
 
 unfoldable pub rows : List (List ℕ)
 rows =
@@ -64,20 +65,31 @@ rows =
     (10000 ∷ 10000 ∷ 10000 ∷ 10000 ∷ 10000 ∷ 10000 ∷ 10000 ∷ 10000 ∷ 10000 ∷ []) ∷  -- 2.65
     []
 
--- A table has a column for a count n, or none; entry k of a column is its row k.
-abbrev pub Table : Type 0
-Table = ℕ → List ℕ
+-- What a table has for a count n: a column of entries, or none.
+pub data Found : Type 0 where
+  no-column : Found
+  a-column : List ℕ → Found
 
 -- columns n = 2 to 10
-unfoldable pub table-106-1 : Table
-table-106-1 n = cond (leb 2 n && leb n 10) (map (λ (row : List ℕ). getD row (n - 2) 0) rows) []
+unfoldable pub table-106-1 : ℕ → Found
+table-106-1 n = cond (leb 2 n && leb n 10) (a-column (map (λ (row : List ℕ). getD row (n - 2) 0) rows)) no-column
 
-abbrev pub entry : Table → ℕ → ℕ → ℕ
-entry table n k = getD (table n) k 0
+-- the entries of what is found
+abbrev pub entries : Found → List ℕ
+entries no-column = []
+entries (a-column column) = column
+
+-- entry k of a column is its row k
+abbrev pub entry : List ℕ → ℕ → ℕ
+entry column k = getD column k 0
 
 -- 54 rows, from index 0.00 to 2.65
 abbrev pub last-row : ℕ
 last-row = 53
+
+-- a column in bytes, two to an entry
+unfoldable pub column-in : List ℕ → List ℕ
+column-in bs = twos (suc last-row) bs
 
 -- no entry is below the one before it
 abbrev pub rises-from : ℕ → List ℕ → Bool

@@ -1,5 +1,11 @@
-// What a host in C gives and is given: plain numbers, laid out as C lays them out. Of each answer the refusal's number stands first.
+// What a host in C gives and is given: plain numbers, laid out as C lays them out. Each answer begins with the refusal.
 // A struct that is passed by value holds no array, so a lot has a field for each of its places, which C lays out as it does an array of ten.
+
+// Why there is no answer: the refusal's number, 0 for none.
+#[repr(C)]
+pub struct HostRefusal {
+    pub number: u32,
+}
 
 #[repr(C)]
 pub struct HostLimit {
@@ -26,20 +32,20 @@ pub struct HostLot {
 
 #[repr(C)]
 pub struct HostMean {
-    pub refusal: u32,
+    pub refusal: HostRefusal,
     pub total: i32,
     pub count: u32,
 }
 
 #[repr(C)]
 pub struct HostDeviation {
-    pub refusal: u32,
+    pub refusal: HostRefusal,
     pub deviation: i32,
 }
 
 #[repr(C)]
 pub struct HostPercentages {
-    pub refusal: u32,
+    pub refusal: HostRefusal,
     pub upper: i64,
     pub lower: i64,
     pub pwl: i64,
@@ -47,7 +53,7 @@ pub struct HostPercentages {
 
 #[repr(C)]
 pub struct HostPayment {
-    pub refusal: u32,
+    pub refusal: HostRefusal,
     pub composite: i64,
     pub vma: u32,
     pub voids: u32,
@@ -64,7 +70,7 @@ pub struct HostPair {
 
 #[repr(C)]
 pub struct HostMixtureLimits {
-    pub refusal: u32,
+    pub refusal: HostRefusal,
     pub vma: HostPair,
     pub voids: HostPair,
     pub density: HostPair,
@@ -72,12 +78,12 @@ pub struct HostMixtureLimits {
 
 #[repr(C)]
 pub struct HostRead {
-    pub refusal: u32,
+    pub refusal: HostRefusal,
     pub lot: HostLot,
 }
 
 #[repr(C)]
 pub struct HostWritten {
-    pub refusal: u32,
+    pub refusal: HostRefusal,
     pub size: usize,
 }

@@ -91,6 +91,11 @@ pub struct Totals {
     pub z: i64,
 }
 
+pub enum TotalsAnswer {
+    Answers(Totals),
+    Refused(Refusal),
+}
+
 // What is said where no values are, or where they stand beside it.
 pub enum Outcome {
     Answers,

@@ -1,5 +1,5 @@
 -- What holds of readings and of a lot that are not refused.
-use mathlib.Core.Path.{_≡_}
+use mathlib.Core.Path.{_≡_, sym, ap, _∙_}
 use mathlib.Core.Bool.{true, false, and-eq-true-iff, _||_}
 use mathlib.Core.List.{List, [], _∷_}
 use Prim.Native.Nat.{ℕ, _≤_}
@@ -9,19 +9,22 @@ use lib.IntN.{ℤ}
 use lib.ListN.{length}
 use Rattle.rules.specs.declared.Limit.{Limit}
 use Rattle.rules.specs.declared.Limit.the-variants.{Absent}
-use Rattle.rules.specs.declared.Outcome.{Outcome}
+use Rattle.rules.specs.declared.Totals.{Totals}
+use Rattle.rules.specs.declared.TotalsAnswer.{TotalsAnswer}
 use Rattle.rules.specs.declared.Percentages.{Percentages}
-use Rattle.rules.specs.Said.{answers, checked}
+use Rattle.rules.specs.Said.{answers, Case, checked}
 use Rattle.rules.specs.Lot.{Lot, lot-of, most}
 use Rattle.rules.specs.Table.{Found, entries}
-use Rattle.rules.specs.Percent.{Rule}
+use Rattle.rules.specs.Percent.{Rule, totals}
 use Rattle.rules.specs.Refusals.{allowed, count-case, out-of-range, any-out, range-case, unlimited-case, crossed, crossed-case}
 use Rattle.rules.specs.Meets.{readings-meet, lot-meets, counted-meets, evaluation-meets}
-use Rattle.rules.specs.Answers.{outcome-said}
-use Rattle.rules.specs.Entries.{percentages, evaluated}
-use Rattle.laws.specs.Bounds.{Accepted}
-use Rattle.laws.proofs.Ruled.{none-met, nothing-refused, ruled-answers}
+use Rattle.rules.specs.Answers.{totals-said}
+use Rattle.rules.specs.Entries.{totals-says, lot-totals, totalled, percentages, evaluated}
+use Rattle.laws.specs.Bounds.{Accepted, Bounded}
+use Rattle.laws.specs.Moved.{Counted}
+use Rattle.laws.proofs.Ruled.{none-met, ruled-answers, totals-answered}
 use Rattle.laws.proofs.Tests.{neither}
+use Rattle.laws.proofs.Bounds.{totals-bounded}
 
 -- A count that is not refused is 2 to the most that a lot can hold.
 pub count-allowed : (n : ℕ) → count-case n .applies ≡ false → (2 ≤ n) × (n ≤ most)
@@ -29,12 +32,24 @@ count-allowed n e =
     let h : (leb 2 n ≡ true) × (leb n most ≡ true) = and-eq-true-iff (leb 2 n) (leb n most) .0 (not-false (allowed n) e) in
     (leb-true 2 n (h .0), leb-true n most (h .1))
 
-pub readings-accepted : (xs : List ℤ) {o : Outcome} → outcome-said o ≡ checked (readings-meet xs) → o ≡ Outcome.Answers → Accepted xs
+readings-accepted : (xs : List ℤ) → checked (readings-meet xs) ≡ answers tt → Accepted xs
 unfolding readings-meet
-readings-accepted xs e h =
-    let m = none-met (count-case (length xs)) (range-case Absent Absent xs ∷ []) (nothing-refused (readings-meet xs) e h) in
+readings-accepted xs e =
+    let m = none-met (count-case (length xs)) (range-case Absent Absent xs ∷ []) e in
     let n = count-allowed (length xs) (m .0) in
     record { least = n .0; few = n .1; near = none-met (range-case Absent Absent xs) [] (m .1) .0 }
+
+-- Readings whose totals are answered are not refused, and the totals are theirs and in bounds.
+pub record ReadingsTotalled (xs : List ℤ) (a : Totals) : Type 0 where
+  pub unrefused : checked (readings-meet xs) ≡ answers tt
+  pub same : totals (length xs) xs ≡ a
+  pub bounded : Bounded a
+
+pub readings-totalled : (xs : List ℤ) {t : TotalsAnswer} {a : Totals} → totals-said t ≡ totals-says xs → t ≡ TotalsAnswer.Answers a → ReadingsTotalled xs a
+unfolding totals-says
+readings-totalled xs e h =
+    let r = totals-answered (readings-meet xs) (totals (length xs) xs) e h in
+    record { unrefused = r .0; same = r .1; bounded = totals-bounded (readings-accepted xs (r .0)) (sym (r .1)) }
 
 -- ---- a lot
 
@@ -63,6 +78,30 @@ lot-accepted lot e =
       lower-near = limits .1;
       near = near .1;
       uncrossed = none-met (crossed-case upper lower) [] (limited .1) .0;
+    }
+
+-- A lot whose totals are answered is not refused, and the totals are its own and in bounds, if its readings are as many as it says.
+pub record LotTotalled (meets : Lot → List Case) (lot : Lot) (a : Totals) : Type 0 where
+  pub unrefused : checked (meets lot) ≡ answers tt
+  pub same : lot-totals lot ≡ a
+  pub accepted : LotAccepted lot
+  pub bounded : Bounded a
+
+pub lot-totalled :
+    (lot : Lot) {t : TotalsAnswer} {a : Totals} → Counted lot →
+    totals-said t ≡ totalled counted-meets lot → t ≡ TotalsAnswer.Answers a → LotTotalled counted-meets lot a
+unfolding totalled
+lot-totalled lot counted e h =
+    let r = totals-answered (counted-meets lot) (lot-totals lot) e h in
+    let ok = lot-accepted lot (r .0) in
+    let size : length (lot .readings) ≡ lot .n = counted (ok .few) in
+    record {
+      unrefused = r .0;
+      same = r .1;
+      accepted = ok;
+      bounded =
+          totals-bounded {xs = lot .readings} (record { least = rw size (ok .least); few = rw size (ok .few); near = ok .near })
+          (sym (r .1) ∙ ap (λ (m : ℕ). totals m (lot .readings)) (sym size));
     }
 
 -- of a lent list with two limits

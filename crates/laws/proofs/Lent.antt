@@ -24,7 +24,7 @@ use Rattle.rules.specs.Refusals.{allowed, size-fits, bytes-count-case, count-ca
 use Rattle.rules.specs.Meets.{lot-meets, counted-meets, row-meets}
 use Rattle.rules.specs.Notebook.{lent-lot, row-of}
 use Rattle.rules.specs.Answers.{totals-said}
-use Rattle.rules.specs.Entries.{lot-totals, lot-totals-says, row-totals-says, percentages-of, row-says}
+use Rattle.rules.specs.Entries.{lot-totals, totalled, percentages-of, row-says}
 use Rattle.laws.specs.Column.{Column}
 use Rattle.laws.specs.Bounds.{Bounded}
 use Rattle.laws.proofs.Ruled.{ruled-passed, ruled-unrefused, none-met, totals-answered, totals-refused}
@@ -84,13 +84,13 @@ module _ (upper lower : Limit) (bs : List ℕ) where
       ∙ ap (λ (l : Lot). ruled (counted-meets l) a) listed
 
   -- and have its totals.
-  pub fitting-totals : size-fits (length bs) ≡ true → row-totals-says upper lower bs ≡ lot-totals-says (lot-of upper lower (fours n bs))
-  unfolding row-totals-says lot-totals-says
+  pub fitting-totals : size-fits (length bs) ≡ true → totalled (row-meets bs) (lent-lot upper lower bs) ≡ totalled counted-meets (lot-of upper lower (fours n bs))
+  unfolding totalled
   fitting-totals e = fitting-meets (lot-totals (lent-lot upper lower bs)) e ∙ ap (λ (l : Lot). ruled (counted-meets (lot-of upper lower (fours n bs))) (lot-totals l)) listed
 
-  module _ {t : TotalsAnswer} (e : totals-said t ≡ row-totals-says upper lower bs) where
+  module _ {t : TotalsAnswer} (e : totals-said t ≡ totalled (row-meets bs) (lent-lot upper lower bs)) where
     pub lent-accepted : {a : Totals} → t ≡ TotalsAnswer.Answers a → LentAccepted upper lower bs a
-    unfolding row-totals-says row-meets lent-lot row-says
+    unfolding totalled row-meets lent-lot row-says
     lent-accepted h =
         let lot : Lot = lent-lot upper lower bs in
         let answered = totals-answered (row-meets bs lot) (lot-totals lot) e h in
@@ -104,5 +104,5 @@ module _ (upper lower : Limit) (bs : List ℕ) where
         }
 
     pub lent-refused : {refusal : Refusal} → t ≡ TotalsAnswer.Refused refusal → row-says upper lower bs ≡ refused refusal
-    unfolding row-totals-says row-says
+    unfolding totalled row-says
     lent-refused h = totals-refused (row-meets bs (lent-lot upper lower bs)) (lot-totals (lent-lot upper lower bs)) e _ h

@@ -2,6 +2,7 @@ pub mod Lists
 pub mod Each
 pub mod Search
 pub mod Table
+pub mod ColumnIn
 pub mod Refusals
 pub mod Tests
 pub mod Between
@@ -11,6 +12,7 @@ pub mod Answers
 pub mod Determined
 pub mod Spread
 pub mod Bounds
+pub mod Walked
 pub mod Accepted
 pub mod Largest
 pub mod Row

@@ -1,10 +1,13 @@
 // Mean and deviation of a lent list of readings, in thousandths, and the totals that they and the lookups are worked out from.
+use refusals::allowed;
+use refusals::in_range;
 use rules::DeviationAnswer;
 use rules::Mean;
 use rules::MeanAnswer;
-use rules::Outcome;
+use rules::Refusal;
 use rules::Thousandths;
 use rules::Totals;
+use rules::TotalsAnswer;
 ghost use mathlib.Core.Path.{_≡_};
 ghost use Prim.Native.Nat.{_*_, _≤_};
 ghost use lib.IntN.{pos, natAbs, _+ℤ_, _-ℤ_, _*ℤ_};
@@ -12,11 +15,11 @@ ghost use lib.ListN.{length};
 ghost use mir.Syntax.{w64};
 ghost use mir.Val.{SFits};
 ghost use Rattle.rules.specs.Lot.{most};
-ghost use Rattle.rules.specs.Percent.{totals, spread};
+ghost use Rattle.rules.specs.Percent.{spread};
 ghost use Rattle.rules.specs.Deviation.{before-midpoint-above, deviation};
-ghost use Rattle.rules.specs.Answers.{mean-said, deviation-said};
-ghost use Rattle.rules.specs.Entries.{mean-says, deviation-says};
-ghost use Rattle.laws.specs.Bounds.{Accepted, Bounded, SpreadInBounds};
+ghost use Rattle.rules.specs.Answers.{totals-said, mean-said, deviation-said};
+ghost use Rattle.rules.specs.Entries.{walk-says, totals-says, mean-says, deviation-says};
+ghost use Rattle.laws.specs.Bounds.{Bounded, SpreadInBounds};
 
 // A number without its sign. Inner: total, but no entry.
 pub fn magnitude(z: i64) -> u64
@@ -37,22 +40,37 @@ fn step(a: Totals, x: i64) -> Totals
     }
 }
 
-// n, T and Z. Inner: the entries pass readings that are not refused.
-pub fn totals(readings: &[i32]) -> Totals
-    requires { ⌜ Accepted (now readings) ⌝ }
-    ensures { λ r. ⌜ r ≡ totals (length (now (readings .entry))) (now (readings .entry)) ⌝ }
+// n, T and Z in one pass, which stops at a reading out of range: 5. Inner: who asks passes no more readings than a lot can hold.
+pub fn walk(readings: &[i32]) -> TotalsAnswer
+    requires { ⌜ length (now readings) ≤ most ⌝ }
+    ensures { λ r. ⌜ totals-said r ≡ walk-says (now (readings .entry)) ⌝ }
 {
     let mut a = Totals {
         n: readings.len() as u32,
         t: 0,
         z: 0,
     };
-    let mut i = readings.len();
-    while 0 < i {
-        i -= 1;
-        a = step(a, readings[i] as i64);
+    let mut i = 0;
+    while i < readings.len() {
+        let x = readings[i] as i64;
+        if !in_range(x) {
+            return TotalsAnswer::Refused(Refusal::Range);
+        }
+        a = step(a, x);
+        i += 1;
     }
-    a
+    TotalsAnswer::Answers(a)
+}
+
+// n, T and Z of readings that are not refused: 4 and 5.
+pub fn totals(readings: &[i32]) -> TotalsAnswer
+    ensures { λ r. ⌜ totals-said r ≡ totals-says (now (readings .entry)) ⌝ }
+{
+    if allowed(readings.len()) {
+        walk(readings)
+    } else {
+        TotalsAnswer::Refused(Refusal::Count)
+    }
 }
 
 fn difference(n: i64, t: i64, z: i64) -> i64
@@ -94,15 +112,12 @@ pub fn rounded(n: u64, v: u64) -> u64
 pub fn mean(readings: &[i32]) -> MeanAnswer
     ensures { λ r. ⌜ mean-said r ≡ mean-says (now (readings .entry)) ⌝ }
 {
-    match refusals::readings(readings) {
-        Outcome::Refused(refusal) => MeanAnswer::Refused(refusal),
-        Outcome::Answers => {
-            let a = totals(readings);
-            MeanAnswer::Answers(Mean {
-                total: Thousandths(a.t as i32),
-                count: a.n,
-            })
-        }
+    match totals(readings) {
+        TotalsAnswer::Refused(refusal) => MeanAnswer::Refused(refusal),
+        TotalsAnswer::Answers(a) => MeanAnswer::Answers(Mean {
+            total: Thousandths(a.t as i32),
+            count: a.n,
+        }),
     }
 }
 
@@ -110,10 +125,9 @@ pub fn mean(readings: &[i32]) -> MeanAnswer
 pub fn deviation(readings: &[i32]) -> DeviationAnswer
     ensures { λ r. ⌜ deviation-said r ≡ deviation-says (now (readings .entry)) ⌝ }
 {
-    match refusals::readings(readings) {
-        Outcome::Refused(refusal) => DeviationAnswer::Refused(refusal),
-        Outcome::Answers => {
-            let a = totals(readings);
+    match totals(readings) {
+        TotalsAnswer::Refused(refusal) => DeviationAnswer::Refused(refusal),
+        TotalsAnswer::Answers(a) => {
             DeviationAnswer::Answers(Thousandths(rounded(a.n as u64, spread(a)) as i32))
         }
     }

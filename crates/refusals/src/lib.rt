@@ -1,8 +1,6 @@
 // The refusal table of document 01, as tests: what an entry does not answer, and by which refusal.
-use places::numbers;
 use rules::Cents;
 use rules::HUNDRED_PERCENT;
-use rules::HeldLot;
 use rules::HundredthTons;
 use rules::Hundredths;
 use rules::Limit;
@@ -10,11 +8,11 @@ use rules::MOST;
 use rules::Outcome;
 use rules::Refusal;
 ghost use mathlib.Core.Path.{_≡_};
+ghost use mathlib.Core.Bool.{_||_};
 ghost use Rattle.rules.specs.Units.{in-range};
 ghost use Rattle.rules.specs.Said.{checked};
-ghost use Rattle.rules.specs.Lot.{lot-of, lot-in};
-ghost use Rattle.rules.specs.Refusals.{allowed, out-of-range, any-out, range-case, none, crossed, outside, pay-case};
-ghost use Rattle.rules.specs.Meets.{readings-meet, lot-meets, evaluation-meets, pay-meets};
+ghost use Rattle.rules.specs.Refusals.{allowed, out-of-range, none, crossed, outside, pay-case};
+ghost use Rattle.rules.specs.Meets.{limits-meet, pay-meets};
 ghost use Rattle.rules.specs.Answers.{outcome-said};
 
 // n is 2 to 10.
@@ -29,18 +27,6 @@ pub fn in_range(z: i64) -> bool
     ensures { λ r. ⌜ r ≡ in-range z ⌝ }
 {
     (-500000 <= z) & (z <= 500000)
-}
-
-fn any_out(readings: &[i32]) -> bool
-    ensures { λ r. ⌜ r ≡ any-out (now (readings .entry)) ⌝ }
-{
-    let mut out = false;
-    let mut i = readings.len();
-    while 0 < i {
-        i -= 1;
-        out = !in_range(readings[i] as i64) | out;
-    }
-    out
 }
 
 fn out_of_range(limit: Limit) -> bool
@@ -76,65 +62,23 @@ fn crossed(upper: Limit, lower: Limit) -> bool
     }
 }
 
-// 5: a present limit or a reading out of range.
-fn some_out(readings: &[i32], upper: Limit, lower: Limit) -> bool
-    ensures { λ r. ⌜ r ≡ range-case upper lower (now (readings .entry)) .applies ⌝ }
+// 5, of limits: a present one out of range.
+pub fn limits_out(upper: Limit, lower: Limit) -> bool
+    ensures { λ r. ⌜ r ≡ (out-of-range upper || out-of-range lower) ⌝ }
 {
-    out_of_range(upper) | out_of_range(lower) | any_out(readings)
+    out_of_range(upper) | out_of_range(lower)
 }
 
-// Mean and deviation: 4 and 5.
-pub fn readings(readings: &[i32]) -> Outcome
-    ensures { λ r. ⌜ outcome-said r ≡ checked (readings-meet (now (readings .entry))) ⌝ }
+// What limits in range can meet: 6 and 7.
+pub fn limits(upper: Limit, lower: Limit) -> Outcome
+    ensures { λ r. ⌜ outcome-said r ≡ checked (limits-meet upper lower) ⌝ }
 {
-    if !allowed(readings.len()) {
-        Outcome::Refused(Refusal::Count)
-    } else if any_out(readings) {
-        Outcome::Refused(Refusal::Range)
-    } else {
-        Outcome::Answers
-    }
-}
-
-// What a lot can meet after its count: 5 to 7.
-pub fn lot(readings: &[i32], upper: Limit, lower: Limit) -> Outcome
-    ensures { λ r. ⌜ outcome-said r ≡ checked (lot-meets (lot-of upper lower (now (readings .entry)))) ⌝ }
-{
-    if some_out(readings, upper, lower) {
-        Outcome::Refused(Refusal::Range)
-    } else if none(upper, lower) {
+    if none(upper, lower) {
         Outcome::Refused(Refusal::Unlimited)
     } else if crossed(upper, lower) {
         Outcome::Refused(Refusal::Crossed)
     } else {
         Outcome::Answers
-    }
-}
-
-// Direct evaluation: 4 to 7.
-pub fn evaluation(readings: &[i32], upper: Limit, lower: Limit) -> Outcome
-    ensures { λ r. ⌜ outcome-said r ≡ checked (evaluation-meets (lot-of upper lower (now (readings .entry)))) ⌝ }
-{
-    if allowed(readings.len()) {
-        lot(readings, upper, lower)
-    } else {
-        Outcome::Refused(Refusal::Count)
-    }
-}
-
-// The same of a lot in memory, whose count may be above what it can hold.
-pub fn held(lot: HeldLot) -> Outcome
-    ensures { λ r. ⌜ outcome-said r ≡ checked (evaluation-meets (lot-in lot)) ⌝ }
-{
-    let count = lot.count as usize;
-    if MOST < count {
-        Outcome::Refused(Refusal::Count)
-    } else {
-        let readings = lot.readings;
-        let upper = lot.upper;
-        let lower = lot.lower;
-        let numbers = numbers(readings);
-        evaluation(&numbers[..count], upper, lower)
     }
 }
 

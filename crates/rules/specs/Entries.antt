@@ -1,5 +1,5 @@
 -- What each entry says, for whatever comes in: the first refusal that applies of those that it can meet, else its values.
-use mathlib.Core.List.{List, _++_, map}
+use mathlib.Core.List.{List, [], _∷_, _++_, map}
 use Prim.Native.Nat.{ℕ, _-_}
 use lib.IntN.{ℤ, pos}
 use lib.ListN.{length, drop, replicate}
@@ -14,7 +14,7 @@ use Rattle.rules.specs.declared.Payment.{Payment}
 use Rattle.rules.specs.declared.MixtureLimits.{MixtureLimits}
 use Rattle.rules.specs.declared.Row.{Row}
 use Rattle.rules.specs.Units.{thousandths, hundredths}
-use Rattle.rules.specs.Said.{Said, refused, answers, ruled}
+use Rattle.rules.specs.Said.{Said, refused, answers, Case, ruled}
 use Rattle.rules.specs.Lot.{Lot, most}
 use Rattle.rules.specs.Table.{Found, table-106-1, entries}
 use Rattle.rules.specs.Percent.{Rule, nearest, totals, sum, spread, upper-side, lower-side, within}
@@ -22,12 +22,18 @@ use Rattle.rules.specs.Deviation.{deviation}
 use Rattle.rules.specs.Pay.{payment}
 use Rattle.rules.specs.Mixture.{mixture-limits}
 use Rattle.rules.specs.Record.{lot-of-record, record-of}
-use Rattle.rules.specs.Meets.{readings-meet, counted-meets, evaluation-meets, row-meets, read-meets, write-meets, pay-meets, mixture-meets}
+use Rattle.rules.specs.Refusals.{range-case}
+use Rattle.rules.specs.Meets.{readings-meet, evaluation-meets, row-meets, read-meets, write-meets, pay-meets, mixture-meets}
 use Rattle.rules.specs.Notebook.{lent-lot, row-of}
 use Rattle.rules.specs.Answers.{ReadSaid}
 
 -- ---- n, T and Z
 
+-- of readings in range
+unfoldable pub walk-says : List ℤ → Said Totals
+walk-says xs = ruled (range-case Absent Absent xs ∷ []) (totals (length xs) xs)
+
+-- of as many as are allowed
 unfoldable pub totals-says : List ℤ → Said Totals
 totals-says xs = ruled (readings-meet xs) (totals (length xs) xs)
 
@@ -35,14 +41,9 @@ totals-says xs = ruled (readings-meet xs) (totals (length xs) xs)
 abbrev pub lot-totals : Lot → Totals
 lot-totals lot = totals (lot .n) (lot .readings)
 
-unfoldable pub lot-totals-says : Lot → Said Totals
-lot-totals-says lot = ruled (counted-meets lot) (lot-totals lot)
-
--- of one whose readings come as bytes
-unfoldable pub row-totals-says : Limit → Limit → List ℕ → Said Totals
-row-totals-says upper lower bs =
-    let lot : Lot = lent-lot upper lower bs in
-    ruled (row-meets bs lot) (lot-totals lot)
+-- where none of some cases is met
+unfoldable pub totalled : (Lot → List Case) → Lot → Said Totals
+totalled meets lot = ruled (meets lot) (lot-totals lot)
 
 -- ---- mean and deviation
 

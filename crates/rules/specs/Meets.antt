@@ -3,6 +3,7 @@ use mathlib.Core.List.{List, [], _∷_, _++_}
 use Prim.Native.Nat.{ℕ}
 use lib.IntN.{ℤ}
 use lib.ListN.{length}
+use Rattle.rules.specs.declared.Limit.{Limit}
 use Rattle.rules.specs.declared.Limit.the-variants.{Absent}
 use Rattle.rules.specs.Said.{Case}
 use Rattle.rules.specs.Lot.{Lot}
@@ -13,13 +14,13 @@ use Rattle.rules.specs.Refusals.{size-case, version-case, flags-case, co
 unfoldable pub readings-meet : List ℤ → List Case
 readings-meet xs = count-case (length xs) ∷ range-case Absent Absent xs ∷ []
 
+-- limits in range: 6 and 7
+abbrev pub limits-meet : Limit → Limit → List Case
+limits-meet upper lower = unlimited-case upper lower ∷ crossed-case upper lower ∷ []
+
 -- what a lot can meet after its count: 5 to 7
 abbrev pub lot-meets : Lot → List Case
-lot-meets lot =
-    range-case (lot .upper) (lot .lower) (lot .readings) ∷
-    unlimited-case (lot .upper) (lot .lower) ∷
-    crossed-case (lot .upper) (lot .lower) ∷
-    []
+lot-meets lot = range-case (lot .upper) (lot .lower) (lot .readings) ∷ limits-meet (lot .upper) (lot .lower)
 
 -- with its count: 4 to 7
 abbrev pub counted-meets : Lot → List Case

@@ -1,12 +1,47 @@
-// Table 106-1 of document 004, as printed, and one entry of it.
+// Table 106-1 of document 004, as printed, a column at a time; and an entry of any column.
 mod columns;
 
-use columns::COLUMNS;
+use columns::N_2;
+use columns::N_3;
+use columns::N_4;
+use columns::N_5;
+use columns::N_6;
+use columns::N_7;
+use columns::N_8;
+use columns::N_9;
+use columns::N_10;
 use rules::Hundredths;
 ghost use mathlib.Core.Path.{_≡_};
 ghost use Prim.Native.Nat.{_≤_};
+ghost use mathlib.Core.List.{[], _∷_};
 ghost use lib.IntN.{pos};
-ghost use Rattle.rules.specs.Table.{table-106-1, entry};
+ghost use lib.ListN.{length};
+ghost use Rattle.rules.specs.Record.{spelled};
+ghost use Rattle.rules.specs.Table.{table-106-1, entries, entry, column-in};
+
+// The column for n readings. Inner: direct evaluation passes a count that has one.
+pub fn column(n: usize) -> [u8; 108]
+    requires { ⌜ (2 ≤ n) × (n ≤ 10) ⌝ }
+    ensures { λ r. ⌜ column-in r ≡ entries (table-106-1 n) ⌝ }
+{
+    match n {
+        2 => N_2,
+        3 => N_3,
+        4 => N_4,
+        5 => N_5,
+        6 => N_6,
+        7 => N_7,
+        8 => N_8,
+        9 => N_9,
+        _ => N_10,
+    }
+}
+
+fn two(high: u8, low: u8) -> u16
+    ensures { λ r. ⌜ r ≡ spelled 0 (high ∷ low ∷ []) ⌝ }
+{
+    256 * high as u16 + low as u16
+}
 
 fn hundredths(printed: u16) -> Hundredths
     ensures { λ r. ⌜ r .0 ≡ pos printed ⌝ }
@@ -14,10 +49,10 @@ fn hundredths(printed: u16) -> Hundredths
     Hundredths(printed as i64)
 }
 
-// The entry for n readings at row k. Inner: direct evaluation keeps both in range.
-pub fn entry(n: usize, k: usize) -> Hundredths
-    requires { ⌜ (2 ≤ n) × (n ≤ 10) × (k ≤ 53) ⌝ }
-    ensures { λ r. ⌜ r .0 ≡ pos (entry table-106-1 n k) ⌝ }
+// The entry of a column at row k. Inner: a side keeps k in range.
+pub fn entry(column: &[u8], k: usize) -> Hundredths
+    requires { ⌜ (length (now column) ≡ 108) × (k ≤ 53) ⌝ }
+    ensures { λ r. ⌜ r .0 ≡ pos (entry (column-in (now (column .entry))) k) ⌝ }
 {
-    hundredths(COLUMNS[n - 2][k])
+    hundredths(two(column[2 * k], column[2 * k + 1]))
 }

@@ -14,8 +14,8 @@ use Rattle.rules.specs.declared.Thousandths.{Thousandths}
 use Rattle.rules.specs.Units.{thousandths}
 use Rattle.rules.specs.Lot.{most, plain}
 use Rattle.laws.proofs.Lists.{made-suc}
-use Rattle.places.proofs.numbers.Statement.{statement}
-use Rattle.places.proofs.numbers.Tie as tie
+use Rattle.lots.proofs.numbers.Statement.{statement}
+use Rattle.lots.proofs.numbers.Tie as tie
 
 abbrev Inv-loop : tie.InvT-loop
 Inv-loop readings numbers₀ i₀ numbers i = (i ≤ most) × (length numbers ≡ most) × (take i numbers ≡ take i (plain readings))

@@ -14,8 +14,8 @@ use Rattle.rules.specs.declared.Thousandths.{Thousandths}
 use Rattle.rules.specs.Units.{thousandths}
 use Rattle.rules.specs.Lot.{most}
 use Rattle.laws.proofs.Lists.{made-suc}
-use Rattle.places.proofs.thousandths.Statement.{statement}
-use Rattle.places.proofs.thousandths.Tie as tie
+use Rattle.lots.proofs.thousandths.Statement.{statement}
+use Rattle.lots.proofs.thousandths.Tie as tie
 
 abbrev Inv-loop : tie.InvT-loop
 Inv-loop numbers readings₀ place₀ readings place = (place ≤ most) × (length readings ≡ most) × (take place readings ≡ take place (map thousandths numbers))

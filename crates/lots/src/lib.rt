@@ -1,0 +1,103 @@
+// A lot: what it meets and, where it is not refused, its totals, by one walk over its readings; and its places in memory as plain numbers and back.
+use readings::walk;
+use refusals::allowed;
+use refusals::limits;
+use refusals::limits_out;
+use rules::HeldLot;
+use rules::Limit;
+use rules::MOST;
+use rules::Outcome;
+use rules::Refusal;
+use rules::Thousandths;
+use rules::Totals;
+use rules::TotalsAnswer;
+ghost use mathlib.Core.Path.{_≡_};
+ghost use mathlib.Core.List.{map};
+ghost use Prim.Native.Nat.{_≤_};
+ghost use lib.ListN.{length};
+ghost use Rattle.rules.specs.Units.{thousandths};
+ghost use Rattle.rules.specs.Said.{ruled};
+ghost use Rattle.rules.specs.Lot.{most, lot-of, plain, lot-in};
+ghost use Rattle.rules.specs.Meets.{limits-meet, lot-meets, counted-meets};
+ghost use Rattle.rules.specs.Answers.{totals-said};
+ghost use Rattle.rules.specs.Entries.{totalled};
+
+// The numbers at the places of a lot in memory.
+pub fn numbers(readings: [Thousandths; MOST]) -> [i32; MOST]
+    ensures { λ r. ⌜ r ≡ plain readings ⌝ }
+{
+    let mut numbers = [0; MOST];
+    let mut i = 0;
+    while i < MOST {
+        let reading = readings[i];
+        let number = reading.0;
+        numbers[i] = number;
+        i += 1;
+    }
+    numbers
+}
+
+// Numbers in their places.
+pub fn thousandths(numbers: [i32; MOST]) -> [Thousandths; MOST]
+    ensures { λ r. ⌜ r ≡ map thousandths numbers ⌝ }
+{
+    let mut readings = [Thousandths(0); MOST];
+    let mut place = 0;
+    while place < MOST {
+        readings[place] = Thousandths(numbers[place]);
+        place += 1;
+    }
+    readings
+}
+
+// Totals, where limits in range are not refused.
+fn limited(a: Totals, upper: Limit, lower: Limit) -> TotalsAnswer
+    ensures { λ r. ⌜ totals-said r ≡ ruled (limits-meet upper lower) a ⌝ }
+{
+    match limits(upper, lower) {
+        Outcome::Refused(refusal) => TotalsAnswer::Refused(refusal),
+        Outcome::Answers => TotalsAnswer::Answers(a),
+    }
+}
+
+// What a lot can meet after its count, 5 to 7, and its totals. Inner: who asks has seen that they are no more readings than a lot can hold.
+pub fn counted(readings: &[i32], upper: Limit, lower: Limit) -> TotalsAnswer
+    requires { ⌜ length (now readings) ≤ most ⌝ }
+    ensures { λ r. ⌜ totals-said r ≡ totalled lot-meets (lot-of upper lower (now (readings .entry))) ⌝ }
+{
+    if limits_out(upper, lower) {
+        TotalsAnswer::Refused(Refusal::Range)
+    } else {
+        match walk(readings) {
+            TotalsAnswer::Refused(refusal) => TotalsAnswer::Refused(refusal),
+            TotalsAnswer::Answers(a) => limited(a, upper, lower),
+        }
+    }
+}
+
+// What a lent list of readings with two limits meets, 4 to 7, and its totals.
+pub fn lent(readings: &[i32], upper: Limit, lower: Limit) -> TotalsAnswer
+    ensures { λ r. ⌜ totals-said r ≡ totalled counted-meets (lot-of upper lower (now (readings .entry))) ⌝ }
+{
+    if allowed(readings.len()) {
+        counted(readings, upper, lower)
+    } else {
+        TotalsAnswer::Refused(Refusal::Count)
+    }
+}
+
+// The same of a lot in memory, whose count may be above what it can hold.
+pub fn held(lot: HeldLot) -> TotalsAnswer
+    ensures { λ r. ⌜ totals-said r ≡ totalled counted-meets (lot-in lot) ⌝ }
+{
+    let count = lot.count as usize;
+    if MOST < count {
+        TotalsAnswer::Refused(Refusal::Count)
+    } else {
+        let readings = lot.readings;
+        let upper = lot.upper;
+        let lower = lot.lower;
+        let numbers = numbers(readings);
+        lent(&numbers[..count], upper, lower)
+    }
+}

@@ -11,18 +11,19 @@ use Rattle.rules.specs.declared.Limit.{Limit}
 use Rattle.rules.specs.declared.Limit.the-variants.{Absent}
 use Rattle.rules.specs.declared.Totals.{Totals}
 use Rattle.rules.specs.declared.TotalsAnswer.{TotalsAnswer}
+use Rattle.rules.specs.declared.Refusal.{Refusal}
 use Rattle.rules.specs.declared.Percentages.{Percentages}
-use Rattle.rules.specs.Said.{answers, Case, checked}
+use Rattle.rules.specs.Said.{refused, answers, Case, checked}
 use Rattle.rules.specs.Lot.{Lot, lot-of, most}
-use Rattle.rules.specs.Table.{Found, entries}
-use Rattle.rules.specs.Percent.{Rule, totals}
+use Rattle.rules.specs.Table.{Found, table-106-1, entries}
+use Rattle.rules.specs.Percent.{Rule, nearest, totals}
 use Rattle.rules.specs.Refusals.{allowed, count-case, out-of-range, any-out, range-case, unlimited-case, crossed, crossed-case}
 use Rattle.rules.specs.Meets.{readings-meet, lot-meets, counted-meets, evaluation-meets}
 use Rattle.rules.specs.Answers.{totals-said}
-use Rattle.rules.specs.Entries.{totals-says, lot-totals, totalled, percentages, evaluated}
+use Rattle.rules.specs.Entries.{totals-says, lot-totals, totalled, percentages-of, percentages, evaluated, evaluation-says}
 use Rattle.laws.specs.Bounds.{Accepted, Bounded}
 use Rattle.laws.specs.Moved.{Counted}
-use Rattle.laws.proofs.Ruled.{none-met, ruled-answers, totals-answered}
+use Rattle.laws.proofs.Ruled.{none-met, ruled-answers, ruled-unrefused, totals-answered, totals-refused}
 use Rattle.laws.proofs.Tests.{neither}
 use Rattle.laws.proofs.Bounds.{totals-bounded}
 
@@ -107,6 +108,22 @@ lot-totalled lot counted e h =
 -- of a lent list with two limits
 pub lent-readings : {upper lower : Limit} {xs : List ℤ} → LotAccepted (lot-of upper lower xs) → Accepted xs
 lent-readings h = record { least = h .least; few = h .few; near = h .near }
+
+-- ---- its evaluation
+
+-- It is by the totals of the lot where these are answered,
+pub totalled-is-evaluated :
+    {lot : Lot} {a : Totals} → LotTotalled counted-meets lot a →
+    answers (percentages-of nearest (entries (table-106-1 (a .n))) a (lot .upper) (lot .lower)) ≡ evaluation-says lot
+unfolding evaluation-says evaluated evaluation-meets
+totalled-is-evaluated {lot} h =
+    ap (λ (b : Totals). answers (percentages-of nearest (entries (table-106-1 (b .n))) b (lot .upper) (lot .lower))) (sym (h .same))
+    ∙ sym (ruled-unrefused _ _ (h .unrefused))
+
+-- and else is refused as they are.
+pub untotalled-is-refused : (lot : Lot) {t : TotalsAnswer} {r : Refusal} → totals-said t ≡ totalled counted-meets lot → t ≡ TotalsAnswer.Refused r → evaluation-says lot ≡ refused r
+unfolding evaluation-says evaluated evaluation-meets totalled
+untotalled-is-refused lot e h = totals-refused (counted-meets lot) (lot-totals lot) e _ h
 
 -- An evaluation that is answered has the lot's percentages, and its lot is not refused.
 pub answered : (rule : Rule) (found : Found) (lot : Lot) (p : Percentages) → evaluated rule found lot ≡ answers p → LotAccepted lot × (percentages rule (entries found) lot ≡ p)

@@ -2,27 +2,26 @@
 mod row;
 mod side;
 
-use places::numbers;
 use readings::spread;
-use readings::totals;
 use rules::Evaluation;
 use rules::HUNDRED_PERCENT;
 use rules::HeldLot;
 use rules::Hundredths;
 use rules::Limit;
-use rules::Outcome;
 use rules::Percentages;
 use rules::Totals;
+use rules::TotalsAnswer;
 use side::lower_side;
 use side::upper_side;
 ghost use mathlib.Core.Path.{_≡_};
 ghost use mathlib.Core.Bool.{false};
 ghost use Rattle.rules.specs.Lot.{lot-of, lot-in};
-ghost use Rattle.rules.specs.Table.{table-106-1};
+ghost use Rattle.rules.specs.Table.{table-106-1, entries, column-in};
 ghost use Rattle.rules.specs.Percent.{nearest, within};
 ghost use Rattle.rules.specs.Refusals.{out-of-range};
 ghost use Rattle.rules.specs.Answers.{evaluation-said};
 ghost use Rattle.rules.specs.Entries.{percentages-of, evaluation-says};
+ghost use Rattle.laws.specs.ColumnIn.{ColumnIn};
 ghost use Rattle.laws.specs.Bounds.{Bounded};
 ghost use Rattle.laws.specs.InPercent.{InPercent};
 
@@ -34,14 +33,14 @@ fn within(upper: Hundredths, lower: Hundredths) -> Hundredths
     Hundredths(upper.0 + lower.0 - HUNDRED_PERCENT)
 }
 
-// Both sides and PWL. Inner: the entries pass totals and limits of a lot that is not refused.
-pub fn percentages(a: Totals, upper: Limit, lower: Limit) -> Percentages
-    requires { ⌜ Bounded a × (out-of-range upper ≡ false) × (out-of-range lower ≡ false) ⌝ }
-    ensures { λ r. ⌜ r ≡ percentages-of nearest table-106-1 a upper lower ⌝ }
+// Both sides and PWL, by a column.
+fn by_column(column: &[u8], a: Totals, upper: Limit, lower: Limit) -> Percentages
+    requires { ⌜ ColumnIn (now column) × Bounded a × (out-of-range upper ≡ false) × (out-of-range lower ≡ false) ⌝ }
+    ensures { λ r. ⌜ r ≡ percentages-of nearest (column-in (now (column .entry))) a upper lower ⌝ }
 {
     let v = spread(a);
-    let u = upper_side(a, v, upper);
-    let l = lower_side(a, v, lower);
+    let u = upper_side(column, a, v, upper);
+    let l = lower_side(column, a, v, lower);
     Percentages {
         upper: u,
         lower: l,
@@ -49,13 +48,22 @@ pub fn percentages(a: Totals, upper: Limit, lower: Limit) -> Percentages
     }
 }
 
+// The door: here a column is found, once, for all that is worked out by it. Inner: the entries pass totals and limits of a lot that is not refused.
+pub fn percentages(a: Totals, upper: Limit, lower: Limit) -> Percentages
+    requires { ⌜ Bounded a × (out-of-range upper ≡ false) × (out-of-range lower ≡ false) ⌝ }
+    ensures { λ r. ⌜ r ≡ percentages-of nearest (entries (table-106-1 (a .n))) a upper lower ⌝ }
+{
+    let column = table::column(a.n as usize);
+    by_column(&column, a, upper, lower)
+}
+
 // Direct evaluation, of a lent list of readings.
 pub fn evaluate(readings: &[i32], upper: Limit, lower: Limit) -> Evaluation
     ensures { λ r. ⌜ evaluation-said r ≡ evaluation-says (lot-of upper lower (now (readings .entry))) ⌝ }
 {
-    match refusals::evaluation(readings, upper, lower) {
-        Outcome::Refused(refusal) => Evaluation::Refused(refusal),
-        Outcome::Answers => Evaluation::Answers(percentages(totals(readings), upper, lower)),
+    match lots::lent(readings, upper, lower) {
+        TotalsAnswer::Refused(refusal) => Evaluation::Refused(refusal),
+        TotalsAnswer::Answers(a) => Evaluation::Answers(percentages(a, upper, lower)),
     }
 }
 
@@ -63,15 +71,12 @@ pub fn evaluate(readings: &[i32], upper: Limit, lower: Limit) -> Evaluation
 pub fn evaluate_held(lot: HeldLot) -> Evaluation
     ensures { λ r. ⌜ evaluation-said r ≡ evaluation-says (lot-in lot) ⌝ }
 {
-    match refusals::held(lot) {
-        Outcome::Refused(refusal) => Evaluation::Refused(refusal),
-        Outcome::Answers => {
-            let count = lot.count as usize;
-            let readings = lot.readings;
+    match lots::held(lot) {
+        TotalsAnswer::Refused(refusal) => Evaluation::Refused(refusal),
+        TotalsAnswer::Answers(a) => {
             let upper = lot.upper;
             let lower = lot.lower;
-            let numbers = numbers(readings);
-            Evaluation::Answers(percentages(totals(&numbers[..count]), upper, lower))
+            Evaluation::Answers(percentages(a, upper, lower))
         }
     }
 }

@@ -11,21 +11,22 @@ ghost use Prim.Native.Nat.{_*_, _≤_};
 ghost use lib.IntN.{pos, natAbs, _-ℤ_, _*ℤ_};
 ghost use Rattle.rules.specs.Units.{hundred-percent};
 ghost use Rattle.rules.specs.Lot.{most};
-ghost use Rattle.rules.specs.Table.{table-106-1};
+ghost use Rattle.rules.specs.Table.{column-in};
 ghost use Rattle.rules.specs.Percent.{spread, nearest, side, upper-side, lower-side};
 ghost use Rattle.rules.specs.Refusals.{out-of-range};
 ghost use Rattle.laws.specs.Bounds.{Bounded, SpreadInBounds, DistanceInBounds};
+ghost use Rattle.laws.specs.ColumnIn.{ColumnIn};
 ghost use Rattle.laws.specs.Reached.{reached};
 
 // The entry at the row; 10,000 where all readings are equal.
-fn reached(n: u32, v: u64, d: i64) -> Hundredths
-    requires { ⌜ SpreadInBounds n v × DistanceInBounds d ⌝ }
-    ensures { λ r. ⌜ r .0 ≡ pos (reached nearest table-106-1 n (pos v) d) ⌝ }
+fn reached(column: &[u8], n: u32, v: u64, d: i64) -> Hundredths
+    requires { ⌜ ColumnIn (now column) × SpreadInBounds n v × DistanceInBounds d ⌝ }
+    ensures { λ r. ⌜ r .0 ≡ pos (reached nearest (column-in (now (column .entry))) n (pos v) d) ⌝ }
 {
     if v == 0 {
         Hundredths(HUNDRED_PERCENT)
     } else {
-        table::entry(n as usize, row(n as u64, v, d) as usize)
+        table::entry(column, row(n as u64, v, d) as usize)
     }
 }
 
@@ -38,11 +39,11 @@ fn rest(part: Hundredths) -> Hundredths
 }
 
 // The percentage of a side at a distance D.
-fn side(n: u32, v: u64, d: i64) -> Hundredths
-    requires { ⌜ SpreadInBounds n v × DistanceInBounds d ⌝ }
-    ensures { λ r. ⌜ r .0 ≡ side nearest table-106-1 n (pos v) d ⌝ }
+fn side(column: &[u8], n: u32, v: u64, d: i64) -> Hundredths
+    requires { ⌜ ColumnIn (now column) × SpreadInBounds n v × DistanceInBounds d ⌝ }
+    ensures { λ r. ⌜ r .0 ≡ side nearest (column-in (now (column .entry))) n (pos v) d ⌝ }
 {
-    let e = reached(n, v, d);
+    let e = reached(column, n, v, d);
     if 0 <= d { e } else { rest(e) }
 }
 
@@ -54,11 +55,11 @@ fn difference(x: i64, y: i64) -> i64
 }
 
 // The side at the distance x − y.
-fn side_between(n: u32, v: u64, x: i64, y: i64) -> Hundredths
-    requires { ⌜ SpreadInBounds n v × (natAbs x ≤ most * 500000) × (natAbs y ≤ most * 500000) ⌝ }
-    ensures { λ r. ⌜ r .0 ≡ side nearest table-106-1 n (pos v) (x -ℤ y) ⌝ }
+fn side_between(column: &[u8], n: u32, v: u64, x: i64, y: i64) -> Hundredths
+    requires { ⌜ ColumnIn (now column) × SpreadInBounds n v × (natAbs x ≤ most * 500000) × (natAbs y ≤ most * 500000) ⌝ }
+    ensures { λ r. ⌜ r .0 ≡ side nearest (column-in (now (column .entry))) n (pos v) (x -ℤ y) ⌝ }
 {
-    side(n, v, difference(x, y))
+    side(column, n, v, difference(x, y))
 }
 
 fn times(n: u32, z: Thousandths) -> i64
@@ -69,23 +70,23 @@ fn times(n: u32, z: Thousandths) -> i64
 }
 
 // The side of an upper limit: 10,000 where it is absent. Inner: an evaluation keeps the bounds.
-pub fn upper_side(a: Totals, v: u64, upper: Limit) -> Hundredths
-    requires { ⌜ Bounded a × (pos v ≡ spread a) × (out-of-range upper ≡ false) ⌝ }
-    ensures { λ r. ⌜ r .0 ≡ upper-side nearest table-106-1 a upper ⌝ }
+pub fn upper_side(column: &[u8], a: Totals, v: u64, upper: Limit) -> Hundredths
+    requires { ⌜ ColumnIn (now column) × Bounded a × (pos v ≡ spread a) × (out-of-range upper ≡ false) ⌝ }
+    ensures { λ r. ⌜ r .0 ≡ upper-side nearest (column-in (now (column .entry))) a upper ⌝ }
 {
     match upper {
         Limit::Absent => Hundredths(HUNDRED_PERCENT),
-        Limit::At(u) => side_between(a.n, v, times(a.n, u), a.t),
+        Limit::At(u) => side_between(column, a.n, v, times(a.n, u), a.t),
     }
 }
 
 // The side of a lower limit. Inner, as the other.
-pub fn lower_side(a: Totals, v: u64, lower: Limit) -> Hundredths
-    requires { ⌜ Bounded a × (pos v ≡ spread a) × (out-of-range lower ≡ false) ⌝ }
-    ensures { λ r. ⌜ r .0 ≡ lower-side nearest table-106-1 a lower ⌝ }
+pub fn lower_side(column: &[u8], a: Totals, v: u64, lower: Limit) -> Hundredths
+    requires { ⌜ ColumnIn (now column) × Bounded a × (pos v ≡ spread a) × (out-of-range lower ≡ false) ⌝ }
+    ensures { λ r. ⌜ r .0 ≡ lower-side nearest (column-in (now (column .entry))) a lower ⌝ }
 {
     match lower {
         Limit::Absent => Hundredths(HUNDRED_PERCENT),
-        Limit::At(l) => side_between(a.n, v, a.t, times(a.n, l)),
+        Limit::At(l) => side_between(column, a.n, v, a.t, times(a.n, l)),
     }
 }

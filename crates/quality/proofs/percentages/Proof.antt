@@ -1,45 +1,36 @@
--- Both sides are percentages, so PWL is worked out within its width.
-use mathlib.Core.Path.{_≡_, ap₂, _∙_, subst⁻¹}
+-- The column is Table 106-1's for the count, and the percentages are by it.
+use mathlib.Core.Path.{_≡_, ap, _∙_}
+use mathlib.Core.List.{List}
+use Prim.Native.Nat.{ℕ}
 use borrow.Author.Needs.{needs}
-use Rattle.rules.specs.Units.{hundredths}
-use Rattle.rules.specs.Table.{table-106-1}
-use Rattle.rules.specs.Percent.{nearest, upper-side, lower-side, within}
+use lib.ListN.{length}
+use Rattle.rules.specs.Percent.{nearest}
 use Rattle.rules.specs.Entries.{percentages-of}
-use Rattle.laws.specs.InPercent.{InPercent}
-use Rattle.laws.proofs.Table.{table-106-1-column}
-use Rattle.laws.proofs.Nearest.{nearest-row-rule}
-use Rattle.laws.proofs.Side.{upper-side-in-percent, lower-side-in-percent}
+use Rattle.laws.proofs.ColumnIn.{table-106-1-column-in}
 use Rattle.quality.proofs.percentages.Statement.{statement}
 use Rattle.quality.proofs.percentages.Tie as tie
 
-spread-requires : tie.Need-spread-requires
-spread-requires c κs = search needs
+cast-column : tie.Need-cast-column
+cast-column c = search needs
 
-upper-side-requires : tie.Need-upper-side-requires
-upper-side-requires c κs = search needs
+column-requires : tie.Need-column-requires
+column-requires c κs = search needs
 
-lower-side-requires : tie.Need-lower-side-requires
-lower-side-requires c κs = search needs
+slice-aggregate-by-column : tie.Need-slice-aggregate-by-column
+slice-aggregate-by-column c = search needs
 
-within-requires : tie.Need-within-requires
-within-requires c κs =
+by-column-requires : tie.Need-by-column-requires
+by-column-requires c κs =
     let start = c .before .before .before in
-    let a = start .args .a in
-    let rows = nearest-row-rule (a .n) .in-table in
-    let column = table-106-1-column (a .n) (start .pre .0 .least) (start .pre .0 .few) in (
-      subst⁻¹ InPercent (c .before .upper-side .ensures) (upper-side-in-percent nearest table-106-1 a rows column (start .args .upper)),
-      subst⁻¹ InPercent (c .lower-side .ensures) (lower-side-in-percent nearest table-106-1 a rows column (start .args .lower)),
-    )
+    let few = start .pre .0 in
+    (table-106-1-column-in (c .before .column .result) (start .args .a .n) (few .least) (few .few) (c .before .column .ok .1 .0 .1) (c .before .column .ensures), few, start .pre .1, start .pre .2)
 
 returns : tie.Need-returns
-unfolding percentages-of
 returns c =
-    let start = c .before .before .before .before in
-    let u : c .before .before .upper-side .result .0 ≡ upper-side nearest table-106-1 (start .args .a) (start .args .upper) = c .before .before .upper-side .ensures in
-    let l : c .before .lower-side .result .0 ≡ lower-side nearest table-106-1 (start .args .a) (start .args .lower) = c .before .lower-side .ensures in
-    let w : c .within .result .0 ≡ within (upper-side nearest table-106-1 (start .args .a) (start .args .upper)) (lower-side nearest table-106-1 (start .args .a) (start .args .lower)) = c .within .ensures ∙ ap₂ within u l in
-    λ i. record { upper = hundredths (u i); lower = hundredths (l i); pwl = hundredths (w i) }
+    let args = c .before .before .before .before .args in
+    c .by-column .ensures ∙ ap (λ (column : List ℕ). percentages-of nearest column (args .a) (args .upper) (args .lower)) (c .before .before .column .ensures)
 
 pub percentages-spec : {M : Type 1} → statement M
 percentages-spec =
-    tie.close (tie.spec spread-requires upper-side-requires lower-side-requires within-requires returns)
+    tie.close
+    (tie.spec cast-column column-requires slice-aggregate-by-column by-column-requires returns)

@@ -9,7 +9,7 @@ use mir.Val.{SFits}
 use mir.Facts.{toZ-ofZ}
 use Rattle.integers.proofs.Magnitude.{fits-of}
 use Rattle.rules.specs.Lot.{most}
-use Rattle.rules.specs.Table.{table-106-1}
+use Rattle.rules.specs.Table.{column-in}
 use Rattle.rules.specs.Percent.{lower-distance, nearest, side, lower-side}
 use Rattle.laws.proofs.Bounds.{total-bound, spread-in-bounds, limit-bound}
 use Rattle.quality.proofs.side.lower_side.Statement.{statement}
@@ -23,16 +23,16 @@ enum-known-lower c = search needs
 
 times-requires : tie.Need-times-requires
 times-requires c κs =
-    let start = c .before .before .before in
-    (start .pre .0 .few, limit-bound (start .args .lower) (c .before .lower .given .1) (start .pre .2))
+    let start = c .before .before .before .before in
+    (start .pre .1 .few, limit-bound (start .args .lower) (c .before .lower .given .1) (start .pre .3))
 
 side-between-requires : tie.Need-side-between-requires
 side-between-requires c κs =
-    let start = c .before .before .before .before .before in
+    let start = c .before .before .before .before .before .before in
     let p : SFits w64 (c .before .times .result) = record { sfits = c .before .times .ok } in
-    let h : natAbs (start .args .a .t) ≤ most * 500000 = total-bound (start .pre .0) in
+    let h : natAbs (start .args .a .t) ≤ most * 500000 = total-bound (start .pre .1) in
     let t : SFits w64 (start .args .a .t) = fits-of w64 (omega arith) in
-    simp toZ-ofZ (spread-in-bounds (start .pre .0) (start .pre .1), h, c .before .times .ensures .1)
+    simp toZ-ofZ (start .pre .0, spread-in-bounds (start .pre .1) (start .pre .2), h, c .before .times .ensures .1)
 
 returns : tie.Need-returns
 unfolding lower-side
@@ -41,13 +41,13 @@ returns c = simp (c .enum-told .given .1)
 returns-2 : tie.Need-returns-2
 unfolding lower-distance lower-side
 returns-2 c =
-    let start = c .before .before .before .before .before .before in
+    let start = c .before .before .before .before .before .before .before in
     let p : SFits w64 (c .before .before .times .result) = record { sfits = c .before .before .times .ok } in
-    let h : natAbs (start .args .a .t) ≤ most * 500000 = total-bound (start .pre .0) in
+    let h : natAbs (start .args .a .t) ≤ most * 500000 = total-bound (start .pre .1) in
     let t : SFits w64 (start .args .a .t) = fits-of w64 (omega arith) in
     rw (c .before .before .before .before .lower .given .1)
     ((simp toZ-ofZ at (c .side-between .ensures))
-    ∙ ap₂ (side nearest table-106-1 (start .args .a .n)) (start .pre .1) (ap (λ (z : ℤ). start .args .a .t -ℤ z) (c .before .before .times .ensures .0)))
+    ∙ ap₂ (side nearest (column-in (start .args .column .now)) (start .args .a .n)) (start .pre .2) (ap (λ (z : ℤ). start .args .a .t -ℤ z) (c .before .before .times .ensures .0)))
 
 pub lower-side-spec : {M : Type 1} → statement M
 lower-side-spec =

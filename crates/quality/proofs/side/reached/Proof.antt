@@ -6,7 +6,7 @@ use borrow.Author.Needs.{needs}
 use borrow.Author.Tests.{lt-ltb, le-ltb}
 use lib.IntN.{pos}
 use mir.Facts.{toZ-ofZ}
-use Rattle.rules.specs.Table.{table-106-1, entry}
+use Rattle.rules.specs.Table.{entry, column-in}
 use Rattle.rules.specs.Percent.{nearest}
 use Rattle.laws.proofs.Row.{row-at-most}
 use Rattle.laws.proofs.Side.{reached-entry, reached-whole}
@@ -18,24 +18,23 @@ row-requires c κs = search needs
 
 entry-requires : tie.Need-entry-requires
 entry-requires c κs =
-    let args = c .before .before .args in
-    let s = c .before .before .pre .0 in
-    let f = c .before .before .fits .d in
+    let args = c .before .before .before .args in
+    let f = c .before .before .before .fits .d in
     let k : c .row .result ≡ nearest (args .n) (pos (args .v)) (args .d) = simp toZ-ofZ at (c .row .ensures) in
-    (s .least, s .few, omega (arith, row-at-most (args .n) (pos (args .v)) (args .d)))
+    (c .before .before .before .pre .0 .size, omega (arith, row-at-most (args .n) (pos (args .v)) (args .d)))
 
 returns : tie.Need-returns
 returns c =
-    let args = c .before .args in
-    sym (ap pos (reached-whole nearest table-106-1 (args .n) (pos (args .v)) (args .d) (le-ltb 0 (args .v) (omega arith))))
+    let args = c .before .before .args in
+    sym (ap pos (reached-whole nearest (column-in (args .column .now)) (args .n) (pos (args .v)) (args .d) (le-ltb 0 (args .v) (omega arith))))
 
 returns-2 : tie.Need-returns-2
 returns-2 c =
-    let args = c .before .before .before .args in
-    let f = c .before .before .before .fits .d in
+    let args = c .before .before .before .before .args in
+    let f = c .before .before .before .before .fits .d in
     c .entry .ensures
-    ∙ ap (λ (k : ℕ). pos (entry table-106-1 (args .n) k)) (simp toZ-ofZ at (c .before .row .ensures))
-    ∙ sym (ap pos (reached-entry nearest table-106-1 (args .n) (pos (args .v)) (args .d) (lt-ltb 0 (args .v) (omega arith))))
+    ∙ ap (λ (k : ℕ). pos (entry (column-in (args .column .now)) k)) (simp toZ-ofZ at (c .before .row .ensures))
+    ∙ sym (ap pos (reached-entry nearest (column-in (args .column .now)) (args .n) (pos (args .v)) (args .d) (lt-ltb 0 (args .v) (omega arith))))
 
 pub reached-spec : {M : Type 1} → statement M
 reached-spec = tie.close (tie.spec row-requires entry-requires returns returns-2)

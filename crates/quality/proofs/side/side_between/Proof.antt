@@ -5,7 +5,7 @@ use lib.IntN.{pos}
 use mir.Syntax.{w64}
 use mir.Val.{SFits}
 use mir.Facts.{toZ-ofZ}
-use Rattle.rules.specs.Table.{table-106-1}
+use Rattle.rules.specs.Table.{column-in}
 use Rattle.rules.specs.Percent.{nearest, side}
 use Rattle.quality.proofs.side.side_between.Statement.{statement}
 use Rattle.quality.proofs.side.side_between.Tie as tie
@@ -18,12 +18,12 @@ side-requires c κs = search needs
 
 returns : tie.Need-returns
 returns c =
-    let start = c .before .before in
+    let start = c .before .before .before in
     let x = start .fits .x in
     let y = start .fits .y in
     let d : SFits w64 (c .before .difference .result) = record { sfits = c .before .difference .ok } in
     (simp toZ-ofZ at (c .side .ensures))
-    ∙ ap (side nearest table-106-1 (start .args .n) (pos (start .args .v))) ((simp toZ-ofZ at (c .before .difference .ensures)) .0)
+    ∙ ap (side nearest (column-in (start .args .column .now)) (start .args .n) (pos (start .args .v))) ((simp toZ-ofZ at (c .before .difference .ensures)) .0)
 
 pub side-between-spec : {M : Type 1} → statement M
 side-between-spec = tie.close (tie.spec difference-requires side-requires returns)

@@ -9,7 +9,7 @@ use mir.Val.{SFits}
 use mir.Facts.{toZ-ofZ}
 use Rattle.integers.proofs.Magnitude.{fits-of}
 use Rattle.rules.specs.Lot.{most}
-use Rattle.rules.specs.Table.{table-106-1}
+use Rattle.rules.specs.Table.{column-in}
 use Rattle.rules.specs.Percent.{upper-distance, nearest, side, upper-side}
 use Rattle.laws.proofs.Bounds.{total-bound, spread-in-bounds, limit-bound}
 use Rattle.quality.proofs.side.upper_side.Statement.{statement}
@@ -23,16 +23,16 @@ enum-known-upper c = search needs
 
 times-requires : tie.Need-times-requires
 times-requires c κs =
-    let start = c .before .before .before in
-    (start .pre .0 .few, limit-bound (start .args .upper) (c .before .upper .given .1) (start .pre .2))
+    let start = c .before .before .before .before in
+    (start .pre .1 .few, limit-bound (start .args .upper) (c .before .upper .given .1) (start .pre .3))
 
 side-between-requires : tie.Need-side-between-requires
 side-between-requires c κs =
-    let start = c .before .before .before .before .before in
+    let start = c .before .before .before .before .before .before in
     let p : SFits w64 (c .before .times .result) = record { sfits = c .before .times .ok } in
-    let h : natAbs (start .args .a .t) ≤ most * 500000 = total-bound (start .pre .0) in
+    let h : natAbs (start .args .a .t) ≤ most * 500000 = total-bound (start .pre .1) in
     let t : SFits w64 (start .args .a .t) = fits-of w64 (omega arith) in
-    simp toZ-ofZ (spread-in-bounds (start .pre .0) (start .pre .1), c .before .times .ensures .1, h)
+    simp toZ-ofZ (start .pre .0, spread-in-bounds (start .pre .1) (start .pre .2), c .before .times .ensures .1, h)
 
 returns : tie.Need-returns
 unfolding upper-side
@@ -41,13 +41,13 @@ returns c = simp (c .enum-told .given .1)
 returns-2 : tie.Need-returns-2
 unfolding upper-distance upper-side
 returns-2 c =
-    let start = c .before .before .before .before .before .before in
+    let start = c .before .before .before .before .before .before .before in
     let p : SFits w64 (c .before .before .times .result) = record { sfits = c .before .before .times .ok } in
-    let h : natAbs (start .args .a .t) ≤ most * 500000 = total-bound (start .pre .0) in
+    let h : natAbs (start .args .a .t) ≤ most * 500000 = total-bound (start .pre .1) in
     let t : SFits w64 (start .args .a .t) = fits-of w64 (omega arith) in
     rw (c .before .before .before .before .upper .given .1)
     ((simp toZ-ofZ at (c .side-between .ensures))
-    ∙ ap₂ (side nearest table-106-1 (start .args .a .n)) (start .pre .1) (ap (λ (z : ℤ). z -ℤ start .args .a .t) (c .before .before .times .ensures .0)))
+    ∙ ap₂ (side nearest (column-in (start .args .column .now)) (start .args .a .n)) (start .pre .2) (ap (λ (z : ℤ). z -ℤ start .args .a .t) (c .before .before .times .ensures .0)))
 
 pub upper-side-spec : {M : Type 1} → statement M
 upper-side-spec =

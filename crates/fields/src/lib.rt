@@ -1,3 +1,3 @@
-// What a record is made of: big-endian numbers, and the 13 bytes before the readings.
-pub mod head;
+// Numbers in bytes, big-endian; and readings that come so.
 pub mod number;
+pub mod words;

@@ -20,7 +20,8 @@ use Rattle.rules.specs.Percent.{Rule, nearest, totals}
 use Rattle.rules.specs.Refusals.{allowed, count-case, out-of-range, any-out, range-case, unlimited-case, crossed, crossed-case}
 use Rattle.rules.specs.Meets.{readings-meet, lot-meets, counted-meets, evaluation-meets}
 use Rattle.rules.specs.Answers.{totals-said}
-use Rattle.rules.specs.Entries.{totals-says, lot-totals, totalled, percentages-of, percentages, evaluated, evaluation-says}
+use Rattle.rules.specs.Entries.{percentages-of, percentages, evaluated, evaluation-says}
+use Rattle.laws.specs.Totalled.{totals-says, lot-totals, totalled}
 use Rattle.laws.specs.Bounds.{Accepted, Bounded}
 use Rattle.laws.specs.Moved.{Counted}
 use Rattle.laws.proofs.Ruled.{none-met, ruled-answers, ruled-unrefused, totals-answered, totals-refused}

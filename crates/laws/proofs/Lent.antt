@@ -24,7 +24,8 @@ use Rattle.rules.specs.Refusals.{allowed, size-fits, bytes-count-case, count-ca
 use Rattle.rules.specs.Meets.{lot-meets, counted-meets, row-meets}
 use Rattle.rules.specs.Notebook.{lent-lot, row-of}
 use Rattle.rules.specs.Answers.{totals-said}
-use Rattle.rules.specs.Entries.{lot-totals, totalled, percentages-of, row-says}
+use Rattle.rules.specs.Entries.{percentages-of, row-says}
+use Rattle.laws.specs.Totalled.{lot-totals, totalled}
 use Rattle.laws.specs.Column.{Column}
 use Rattle.laws.specs.Bounds.{Bounded}
 use Rattle.laws.proofs.Ruled.{ruled-passed, ruled-unrefused, none-met, totals-answered, totals-refused}

@@ -42,6 +42,7 @@ pub mod TurnedAnswers
 pub mod MovedAnswers
 pub mod PayAnswers
 pub mod Spelled
+pub mod Words
 pub mod Lent
 pub mod HeadAccepted
 pub mod AbsentLimits

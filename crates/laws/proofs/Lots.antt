@@ -1,7 +1,7 @@
 -- The lots that the entries take, a lent list with two limits and a lot in memory: turned or moved they are such lots again.
-use mathlib.Core.Path.{_≡_, refl, ap, _∙_}
-use mathlib.Core.Bool.{false, _||_}
-use mathlib.Core.List.{List, [], _∷_, _++_, map}
+use mathlib.Core.Path.{_≡_, refl, ap}
+use mathlib.Core.Bool.{Bool, true, false, cond, _||_}
+use mathlib.Core.List.{List, [], _∷_, map}
 use Prim.Native.Nat.{ℕ, zero, suc, _≤_}
 use native.Mathlib.Omega.{arith}
 use lib.IntN.{ℤ, negℤ, _+ℤ_}
@@ -9,22 +9,18 @@ use lib.ListN.{length, length-map, take}
 use lib.Seq.{length-take-le}
 use Rattle.rules.specs.declared.Thousandths.{Thousandths}
 use Rattle.rules.specs.declared.Limit.{Limit}
-use Rattle.rules.specs.declared.Limit.the-variants.{Absent}
 use Rattle.rules.specs.declared.Totals.{Totals}
-use Rattle.rules.specs.declared.TotalsAnswer.{TotalsAnswer}
-use Rattle.rules.specs.declared.Refusal.{Refusal}
+use Rattle.rules.specs.declared.Refusal.the-variants.{Range}
 use Rattle.rules.specs.declared.HeldLot.{HeldLot}
 use Rattle.rules.specs.Units.{thousandths}
-use Rattle.rules.specs.Said.{refused, Case, ruled}
+use Rattle.rules.specs.Said.{refused, answers, ruled}
 use Rattle.rules.specs.Lot.{lot-of, plain, places, lot-in, most}
 use Rattle.rules.specs.Percent.{totals}
-use Rattle.rules.specs.Refusals.{out-of-range, range-case}
+use Rattle.rules.specs.Refusals.{out-of-range, any-out}
 use Rattle.rules.specs.Meets.{limits-meet, lot-meets}
-use Rattle.rules.specs.Answers.{totals-said}
-use Rattle.rules.specs.Entries.{walk-says, totalled}
+use Rattle.laws.specs.Totalled.{walk-says, limited-say, with-limits-say, totalled}
 use Rattle.laws.specs.Turned.{turned-limit, turned, turned-held}
 use Rattle.laws.specs.Moved.{moved-readings, moved-limit, moved, moved-held, Counted}
-use Rattle.laws.proofs.Ruled.{ruled-first, ruled-later, totals-answered, totals-refused}
 
 -- The first places of a lot in memory after something was done at every place.
 first-places : (f : ℤ → ℤ) (k : ℕ) (xs : List Thousandths) → take k (plain (map (λ (x : Thousandths). thousandths (f (x .0))) xs)) ≡ map f (take k (plain xs))
@@ -56,22 +52,15 @@ pub lent-places : (held : HeldLot) (numbers : List ℤ) → length numbers ≡ m
 lent-places held numbers size e few =
     λ i. record { n = length-take-le (held .count) numbers (omega arith) i; upper = held .upper; lower = held .lower; readings = take (held .count) (e i) }
 
--- A lot whose limits are in range meets what a walk over its readings does, and then what such limits do.
-module _ (upper lower : Limit) (xs : List ℤ) (near : (out-of-range upper || out-of-range lower) ≡ false) where
-  after-walk : lot-meets (lot-of upper lower xs) ≡ (range-case Absent Absent xs ∷ []) ++ limits-meet upper lower
-  after-walk = rw near
+-- What a lot meets after its count, with its totals, is what a walk over its readings says, with its limits.
+pub walked-with-limits : (upper lower : Limit) (xs : List ℤ) → with-limits-say upper lower (walk-says xs) ≡ totalled lot-meets (lot-of upper lower xs)
+unfolding walk-says with-limits-say totalled ruled
+walked-with-limits upper lower xs = by (out-of-range upper || out-of-range lower) (any-out xs)
+  where
+    a : Totals
+    a = totals (length xs) xs
 
-  pub walk-refused : {t : TotalsAnswer} {r : Refusal} → totals-said t ≡ walk-says xs → t ≡ TotalsAnswer.Refused r → totalled lot-meets (lot-of upper lower xs) ≡ refused r
-  unfolding walk-says totalled
-  walk-refused e h =
-      let b : Totals = totals (length xs) xs in
-      ap (λ (cs : List Case). ruled cs b) after-walk ∙ ruled-first (range-case Absent Absent xs ∷ []) (limits-meet upper lower) b (totals-refused _ b e tt h)
-
-  pub walk-answered : {t : TotalsAnswer} {a : Totals} → totals-said t ≡ walk-says xs → t ≡ TotalsAnswer.Answers a → totalled lot-meets (lot-of upper lower xs) ≡ ruled (limits-meet upper lower) a
-  unfolding walk-says totalled
-  walk-answered e h =
-      let b : Totals = totals (length xs) xs in
-      let r = totals-answered _ b e h in
-      ap (λ (cs : List Case). ruled cs b) after-walk
-      ∙ ruled-later (range-case Absent Absent xs ∷ []) (limits-meet upper lower) b (r .0)
-      ∙ ap (ruled (limits-meet upper lower)) (r .1)
+    by : (limits readings : Bool) → cond limits (refused Range) (limited-say upper lower (cond readings (refused Range) (answers a))) ≡ cond (limits || readings) (refused Range) (ruled (limits-meet upper lower) a)
+    by true readings = refl
+    by false true = refl
+    by false false = refl

@@ -19,3 +19,4 @@ pub mod Taken
 pub mod Bytes
 pub mod Head
 pub mod Desk
+pub mod Totalled

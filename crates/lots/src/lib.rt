@@ -1,4 +1,4 @@
-// A lot: what it meets and, where it is not refused, its totals, by one walk over its readings; and its places in memory as plain numbers and back.
+// A lot: what it meets and, where it is not refused, its totals, by one walk over its readings.
 use readings::walk;
 use refusals::allowed;
 use refusals::limits;
@@ -12,15 +12,11 @@ use rules::Thousandths;
 use rules::Totals;
 use rules::TotalsAnswer;
 ghost use mathlib.Core.Path.{_≡_};
-ghost use mathlib.Core.List.{map};
-ghost use Prim.Native.Nat.{_≤_};
-ghost use lib.ListN.{length};
-ghost use Rattle.rules.specs.Units.{thousandths};
 ghost use Rattle.rules.specs.Said.{ruled};
-ghost use Rattle.rules.specs.Lot.{most, lot-of, plain, lot-in};
-ghost use Rattle.rules.specs.Meets.{limits-meet, lot-meets, counted-meets};
+ghost use Rattle.rules.specs.Lot.{lot-of, plain, lot-in};
+ghost use Rattle.rules.specs.Meets.{limits-meet, counted-meets};
 ghost use Rattle.rules.specs.Answers.{totals-said};
-ghost use Rattle.rules.specs.Entries.{totalled};
+ghost use Rattle.laws.specs.Totalled.{with-limits-say, totalled};
 
 // The numbers at the places of a lot in memory.
 pub fn numbers(readings: [Thousandths; MOST]) -> [i32; MOST]
@@ -37,19 +33,6 @@ pub fn numbers(readings: [Thousandths; MOST]) -> [i32; MOST]
     numbers
 }
 
-// Numbers in their places.
-pub fn thousandths(numbers: [i32; MOST]) -> [Thousandths; MOST]
-    ensures { λ r. ⌜ r ≡ map thousandths numbers ⌝ }
-{
-    let mut readings = [Thousandths(0); MOST];
-    let mut place = 0;
-    while place < MOST {
-        readings[place] = Thousandths(numbers[place]);
-        place += 1;
-    }
-    readings
-}
-
 // Totals, where limits in range are not refused.
 fn limited(a: Totals, upper: Limit, lower: Limit) -> TotalsAnswer
     ensures { λ r. ⌜ totals-said r ≡ ruled (limits-meet upper lower) a ⌝ }
@@ -60,15 +43,14 @@ fn limited(a: Totals, upper: Limit, lower: Limit) -> TotalsAnswer
     }
 }
 
-// What a lot can meet after its count, 5 to 7, and its totals. Inner: who asks has seen that they are no more readings than a lot can hold.
-pub fn counted(readings: &[i32], upper: Limit, lower: Limit) -> TotalsAnswer
-    requires { ⌜ length (now readings) ≤ most ⌝ }
-    ensures { λ r. ⌜ totals-said r ≡ totalled lot-meets (lot-of upper lower (now (readings .entry))) ⌝ }
+// What a lot can meet after its count, 5 to 7, of what a walk over its readings says and of its limits.
+pub fn met(walked: TotalsAnswer, upper: Limit, lower: Limit) -> TotalsAnswer
+    ensures { λ r. ⌜ totals-said r ≡ with-limits-say upper lower (totals-said walked) ⌝ }
 {
     if limits_out(upper, lower) {
         TotalsAnswer::Refused(Refusal::Range)
     } else {
-        match walk(readings) {
+        match walked {
             TotalsAnswer::Refused(refusal) => TotalsAnswer::Refused(refusal),
             TotalsAnswer::Answers(a) => limited(a, upper, lower),
         }
@@ -80,7 +62,7 @@ pub fn lent(readings: &[i32], upper: Limit, lower: Limit) -> TotalsAnswer
     ensures { λ r. ⌜ totals-said r ≡ totalled counted-meets (lot-of upper lower (now (readings .entry))) ⌝ }
 {
     if allowed(readings.len()) {
-        counted(readings, upper, lower)
+        met(walk(readings), upper, lower)
     } else {
         TotalsAnswer::Refused(Refusal::Count)
     }

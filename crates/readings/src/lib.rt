@@ -18,7 +18,8 @@ ghost use Rattle.rules.specs.Lot.{most};
 ghost use Rattle.rules.specs.Percent.{spread};
 ghost use Rattle.rules.specs.Deviation.{before-midpoint-above, deviation};
 ghost use Rattle.rules.specs.Answers.{totals-said, mean-said, deviation-said};
-ghost use Rattle.rules.specs.Entries.{walk-says, totals-says, mean-says, deviation-says};
+ghost use Rattle.rules.specs.Entries.{mean-says, deviation-says};
+ghost use Rattle.laws.specs.Totalled.{pass-says, walk-says, totals-says};
 ghost use Rattle.laws.specs.Bounds.{Bounded, SpreadInBounds};
 
 // A number without its sign. Inner: total, but no entry.
@@ -40,6 +41,18 @@ fn step(a: Totals, x: i64) -> Totals
     }
 }
 
+// One reading more, or 5 where it is out of range. Inner: a walk passes sums of no more readings than a lot can hold.
+pub fn pass(a: Totals, x: i32) -> TotalsAnswer
+    requires { ⌜ (natAbs (a .t) ≤ most * 500000) × (natAbs (a .z) ≤ most * 250000000000) ⌝ }
+    ensures { λ r. ⌜ totals-said r ≡ pass-says a x ⌝ }
+{
+    if in_range(x as i64) {
+        TotalsAnswer::Answers(step(a, x as i64))
+    } else {
+        TotalsAnswer::Refused(Refusal::Range)
+    }
+}
+
 // n, T and Z in one pass, which stops at a reading out of range: 5. Inner: who asks passes no more readings than a lot can hold.
 pub fn walk(readings: &[i32]) -> TotalsAnswer
     requires { ⌜ length (now readings) ≤ most ⌝ }
@@ -52,11 +65,10 @@ pub fn walk(readings: &[i32]) -> TotalsAnswer
     };
     let mut i = 0;
     while i < readings.len() {
-        let x = readings[i] as i64;
-        if !in_range(x) {
-            return TotalsAnswer::Refused(Refusal::Range);
+        match pass(a, readings[i]) {
+            TotalsAnswer::Refused(refusal) => return TotalsAnswer::Refused(refusal),
+            TotalsAnswer::Answers(more) => a = more,
         }
-        a = step(a, x);
         i += 1;
     }
     TotalsAnswer::Answers(a)

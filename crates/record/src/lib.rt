@@ -8,7 +8,7 @@ use fields::number::signed;
 use fields::number::spell;
 use fields::number::unsigned;
 use fields::number::word;
-use places::thousandths;
+use lots::thousandths;
 use rules::HeldLot;
 use rules::Limit;
 use rules::MOST;
@@ -16,16 +16,16 @@ use rules::Outcome;
 use rules::ReadAnswer;
 use rules::Refusal;
 use rules::Thousandths;
+use rules::TotalsAnswer;
 use rules::WriteAnswer;
 ghost use mathlib.Core.Path.{_≡_};
 ghost use mathlib.Core.List.{_++_};
 ghost use Prim.Native.Nat.{_+_, _*_, _-_, _≤_};
 ghost use lib.IntN.{pos};
 ghost use lib.ListN.{length, take, replicate};
-ghost use Rattle.rules.specs.Said.{ruled};
+ghost use Rattle.rules.specs.Said.{refused, ruled};
 ghost use Rattle.rules.specs.Lot.{most, lot-in};
 ghost use Rattle.rules.specs.Record.{head-size, fours, lot-of-record, record-of};
-ghost use Rattle.rules.specs.Refusals.{told};
 ghost use Rattle.rules.specs.Meets.{lot-meets};
 ghost use Rattle.rules.specs.Answers.{read-said, write-said};
 ghost use Rattle.rules.specs.Entries.{beside, read-leaves, write-says, after-write};
@@ -49,7 +49,7 @@ pub fn fours(bytes: &[u8], n: usize) -> [i32; MOST]
 
 // A refusal, beside a blank lot.
 fn refused(refusal: Refusal) -> ReadAnswer
-    ensures { λ r. ⌜ read-said r ≡ beside (told refusal) ⌝ }
+    ensures { λ r. ⌜ read-said r ≡ beside (refused refusal) ⌝ }
 {
     ReadAnswer {
         said: Outcome::Refused(refusal),
@@ -71,9 +71,9 @@ fn lot(bytes: &[u8]) -> ReadAnswer
     let upper = upper(bytes);
     let lower = lower(bytes);
     let numbers = fours(&bytes[HEAD..], n);
-    match refusals::lot(&numbers[..n], upper, lower) {
-        Outcome::Refused(refusal) => refused(refusal),
-        Outcome::Answers => ReadAnswer {
+    match lots::counted(&numbers[..n], upper, lower) {
+        TotalsAnswer::Refused(refusal) => refused(refusal),
+        TotalsAnswer::Answers(_) => ReadAnswer {
             said: Outcome::Answers,
             lot: HeldLot {
                 upper: upper,
@@ -125,9 +125,9 @@ fn record_of(lot: HeldLot) -> [u8; LONGEST]
 pub fn write(lot: HeldLot, out: &mut [u8]) -> WriteAnswer
     ensures { λ r. ⌜ (write-said r ≡ write-says (lot-in lot) (now (out .entry))) × (now (out .exit) ≡ after-write (lot-in lot) (now (out .entry))) ⌝ }
 {
-    match refusals::held(lot) {
-        Outcome::Refused(refusal) => WriteAnswer::Refused(refusal),
-        Outcome::Answers => {
+    match lots::held(lot) {
+        TotalsAnswer::Refused(refusal) => WriteAnswer::Refused(refusal),
+        TotalsAnswer::Answers(_) => {
             let size = HEAD + 4 * lot.count as usize;
             if out.len() < size {
                 WriteAnswer::Refused(Refusal::Room)

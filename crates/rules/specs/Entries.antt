@@ -1,6 +1,6 @@
 -- What each entry says, for whatever comes in: the first refusal that applies of those that it can meet, else its values.
-use mathlib.Core.List.{List, [], _∷_, _++_, map}
-use Prim.Native.Nat.{ℕ, _-_}
+use mathlib.Core.List.{List, _++_}
+use Prim.Native.Nat.{ℕ}
 use lib.IntN.{ℤ, pos}
 use lib.ListN.{length, drop, replicate}
 use Rattle.rules.specs.declared.Thousandths.{Thousandths}
@@ -14,36 +14,17 @@ use Rattle.rules.specs.declared.Payment.{Payment}
 use Rattle.rules.specs.declared.MixtureLimits.{MixtureLimits}
 use Rattle.rules.specs.declared.Row.{Row}
 use Rattle.rules.specs.Units.{thousandths, hundredths}
-use Rattle.rules.specs.Said.{Said, refused, answers, Case, ruled}
-use Rattle.rules.specs.Lot.{Lot, most}
+use Rattle.rules.specs.Said.{Said, refused, answers, ruled}
+use Rattle.rules.specs.Lot.{Lot, most, in-places}
 use Rattle.rules.specs.Table.{Found, table-106-1, entries}
 use Rattle.rules.specs.Percent.{Rule, nearest, totals, sum, spread, upper-side, lower-side, within}
 use Rattle.rules.specs.Deviation.{deviation}
 use Rattle.rules.specs.Pay.{payment}
 use Rattle.rules.specs.Mixture.{mixture-limits}
 use Rattle.rules.specs.Record.{lot-of-record, record-of}
-use Rattle.rules.specs.Refusals.{range-case}
 use Rattle.rules.specs.Meets.{readings-meet, evaluation-meets, row-meets, read-meets, write-meets, pay-meets, mixture-meets}
 use Rattle.rules.specs.Notebook.{lent-lot, row-of}
 use Rattle.rules.specs.Answers.{ReadSaid}
-
--- ---- n, T and Z
-
--- of readings in range
-unfoldable pub walk-says : List ℤ → Said Totals
-walk-says xs = ruled (range-case Absent Absent xs ∷ []) (totals (length xs) xs)
-
--- of as many as are allowed
-unfoldable pub totals-says : List ℤ → Said Totals
-totals-says xs = ruled (readings-meet xs) (totals (length xs) xs)
-
--- of a lot
-abbrev pub lot-totals : Lot → Totals
-lot-totals lot = totals (lot .n) (lot .readings)
-
--- where none of some cases is met
-unfoldable pub totalled : (Lot → List Case) → Lot → Said Totals
-totalled meets lot = ruled (meets lot) (lot-totals lot)
 
 -- ---- mean and deviation
 
@@ -72,7 +53,7 @@ module _ (rule : Rule) (column : List ℕ) where
       record { upper = hundredths u; lower = hundredths l; pwl = hundredths (within u l) }
 
   abbrev pub percentages : Lot → Percentages
-  percentages lot = percentages-of (lot-totals lot) (lot .upper) (lot .lower)
+  percentages lot = percentages-of (totals (lot .n) (lot .readings)) (lot .upper) (lot .lower)
 
 -- by a rule for rows, and by what is found for the lot
 unfoldable pub evaluated : Rule → Found → Lot → Said Percentages
@@ -94,7 +75,7 @@ held (answers lot) =
       upper = lot .upper;
       lower = lot .lower;
       count = lot .n;
-      readings = map thousandths (lot .readings) ++ replicate (most - lot .n) (thousandths (pos 0));
+      readings = in-places (lot .n) (lot .readings);
     }
 
 abbrev pub bare : {A : Type 0} → Said A → Said (Unit {0})

@@ -1,12 +1,13 @@
 -- A lot: its count n, its limits and its readings. They are n in number, but for a lot in memory whose count is above what it can hold,
 -- and that is refusal 4.
-use mathlib.Core.List.{List, map}
-use Prim.Native.Nat.{ℕ}
-use lib.IntN.{ℤ}
-use lib.ListN.{length, take}
+use mathlib.Core.List.{List, _++_, map}
+use Prim.Native.Nat.{ℕ, _-_}
+use lib.IntN.{ℤ, pos}
+use lib.ListN.{length, take, replicate}
 use Rattle.rules.specs.declared.Thousandths.{Thousandths}
 use Rattle.rules.specs.declared.Limit.{Limit}
 use Rattle.rules.specs.declared.HeldLot.{HeldLot}
+use Rattle.rules.specs.Units.{thousandths}
 
 -- the most readings that a lot can hold
 abbrev pub most : ℕ
@@ -28,6 +29,10 @@ plain xs = map (λ (x : Thousandths). x .0) xs
 
 abbrev pub places : HeldLot → List ℤ
 places held = plain (held .readings)
+
+-- readings in the places of a lot in memory, and zeros after them
+abbrev pub in-places : ℕ → List ℤ → List Thousandths
+in-places n xs = map thousandths xs ++ replicate (most - n) (thousandths (pos 0))
 
 -- of a lot in memory, which says how many of its places are its readings
 abbrev pub lot-in : HeldLot → Lot

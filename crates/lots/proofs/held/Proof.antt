@@ -11,7 +11,7 @@ use lib.Seq.{length-take-le}
 use Rattle.rules.specs.Lot.{Lot, most}
 use Rattle.rules.specs.Refusals.{allowed}
 use Rattle.rules.specs.Meets.{counted-meets}
-use Rattle.rules.specs.Entries.{totalled}
+use Rattle.laws.specs.Totalled.{totalled}
 use Rattle.laws.proofs.Ruled.{ruled-met}
 use Rattle.laws.proofs.Lots.{lent-places}
 use Rattle.lots.proofs.held.Statement.{statement}

@@ -12,7 +12,8 @@ use Rattle.rules.specs.Units.{thousandths}
 use Rattle.rules.specs.Said.{Said, answers}
 use Rattle.rules.specs.Percent.{spread}
 use Rattle.rules.specs.Deviation.{deviation}
-use Rattle.rules.specs.Entries.{totals-says, deviation-says}
+use Rattle.rules.specs.Entries.{deviation-says}
+use Rattle.laws.specs.Totalled.{totals-says}
 use Rattle.laws.proofs.Ruled.{ruled-unrefused, totals-refused}
 use Rattle.laws.proofs.Accepted.{ReadingsTotalled, readings-totalled}
 use Rattle.laws.proofs.Bounds.{spread-in-bounds}

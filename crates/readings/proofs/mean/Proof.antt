@@ -10,7 +10,8 @@ use Rattle.rules.specs.declared.Totals.{Totals}
 use Rattle.rules.specs.declared.Mean.{Mean}
 use Rattle.rules.specs.Units.{thousandths}
 use Rattle.rules.specs.Said.{Said, answers}
-use Rattle.rules.specs.Entries.{totals-says, mean-says}
+use Rattle.rules.specs.Entries.{mean-says}
+use Rattle.laws.specs.Totalled.{totals-says}
 use Rattle.laws.proofs.Ruled.{ruled-unrefused, totals-refused}
 use Rattle.laws.proofs.Accepted.{ReadingsTotalled, readings-totalled}
 use Rattle.laws.proofs.Bounds.{total-bound}

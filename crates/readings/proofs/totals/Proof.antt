@@ -3,7 +3,7 @@ use mathlib.Core.Path.{sym, ap, _∙_}
 use mathlib.Core.Bool.{not, and-eq-true-iff}
 use borrow.Author.Needs.{needs}
 use borrow.Author.Tests.{leb-true}
-use Rattle.rules.specs.Entries.{walk-says, totals-says}
+use Rattle.laws.specs.Totalled.{walk-says, totals-says}
 use Rattle.rules.specs.Meets.{readings-meet}
 use Rattle.laws.proofs.Ruled.{ruled-met, ruled-passed}
 use Rattle.laws.proofs.Accepted.{count-allowed}

@@ -9,13 +9,15 @@ use lib.ListN.{length, length-drop, take, drop, replicate}
 use lib.Seq.{take-all, take-at}
 use Rattle.rules.specs.declared.Thousandths.{Thousandths}
 use Rattle.rules.specs.Units.{thousandths}
+use Rattle.rules.specs.declared.TotalsAnswer.{TotalsAnswer}
 use Rattle.rules.specs.Said.{answers, checked}
 use Rattle.rules.specs.Lot.{most, lot-of}
 use Rattle.rules.specs.Record.{fours, n-field, head-size, lot-of-record}
 use Rattle.rules.specs.Meets.{lot-meets}
-use Rattle.rules.specs.Answers.{outcome-said}
+use Rattle.rules.specs.Answers.{totals-said}
 use Rattle.rules.specs.Entries.{held, beside}
-use Rattle.laws.proofs.Ruled.{outcome-answers, outcome-refused}
+use Rattle.laws.specs.Totalled.{lot-totals, totalled}
+use Rattle.laws.proofs.Ruled.{ruled-unrefused, totals-answered, totals-refused}
 use Rattle.laws.proofs.Spelled.{length-fours}
 use Rattle.record.proofs.lot.Statement.{statement}
 use Rattle.record.proofs.lot.Tie as tie
@@ -34,10 +36,10 @@ readings-are c =
     let xs : List ℤ = fours n (drop head-size (bytes c)) in
     ap (take n) (numbers-are c) ∙ take-at xs (replicate (most - n) (pos 0)) n (length-fours n (drop head-size (bytes c)))
 
-outcome-is : (c : tie.After-lot) → outcome-said (c .lot .result) ≡ checked (lot-meets (lot-of-record (bytes (c .before .before))))
-unfolding lot-of-record
-outcome-is c =
-    c .lot .ensures ∙ (λ i. checked (lot-meets (lot-of (c .before .before .before .before .before .upper .ensures i) (c .before .before .before .before .lower .ensures i) (readings-are (c .before .before) i))))
+totals-are : (c : tie.After-counted) → totals-said (c .counted .result) ≡ ruled (lot-meets (lot-of-record (bytes (c .before .before)))) (lot-totals (lot-of-record (bytes (c .before .before))))
+unfolding lot-of-record totalled
+totals-are c =
+    c .counted .ensures ∙ (λ i. totalled lot-meets (lot-of (c .before .before .before .before .before .upper .ensures i) (c .before .before .before .before .lower .ensures i) (readings-are (c .before .before) i)))
 
 -- Zeros in their places.
 zeros : (k : ℕ) → map thousandths (replicate k (pos 0)) ≡ replicate k (thousandths (pos 0))
@@ -71,11 +73,11 @@ fours-requires c κs = search needs
 array-share-prefix-numbers : tie.Need-array-share-prefix-numbers
 array-share-prefix-numbers c = search needs
 
-slice-aggregate-lot : tie.Need-slice-aggregate-lot
-slice-aggregate-lot c = sym (ap length (readings-are (c .before)) ∙ length-fours _ _)
+slice-aggregate-counted : tie.Need-slice-aggregate-counted
+slice-aggregate-counted c = sym (ap length (readings-are (c .before)) ∙ length-fours _ _)
 
-lot-requires : tie.Need-lot-requires
-lot-requires c κs = search needs
+counted-requires : tie.Need-counted-requires
+counted-requires c κs = search needs
 
 enum-known-refusal : tie.Need-enum-known-refusal
 enum-known-refusal c = search needs
@@ -93,7 +95,7 @@ thousandths-requires : tie.Need-thousandths-requires
 thousandths-requires c κs = search needs
 
 returns : tie.Need-returns
-returns c = c .refused .ensures ∙ ap beside (sym (outcome-refused _ (outcome-is (c .before .before .before .before)) _ (c .before .before .refusal .given .1)))
+returns c = c .refused .ensures ∙ ap beside (sym (totals-refused _ _ (totals-are (c .before .before .before .before)) _ (c .before .before .refusal .given .1)))
 
 returns-2 : tie.Need-returns-2
 unfolding held lot-of-record
@@ -117,8 +119,8 @@ lot-spec =
     part-fours-end
     fours-requires
     array-share-prefix-numbers
-    slice-aggregate-lot
-    lot-requires
+    slice-aggregate-counted
+    counted-requires
     enum-known-refusal
     refused-requires
     enum-told

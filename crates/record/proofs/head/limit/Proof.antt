@@ -7,8 +7,8 @@ use mir.Val.{SFits}
 use mir.Facts.{toZ-ofZ}
 use Rattle.rules.specs.declared.Limit.the-variants.{At}
 use Rattle.rules.specs.Units.{thousandths}
-use Rattle.fields.proofs.head.limit.Statement.{statement}
-use Rattle.fields.proofs.head.limit.Tie as tie
+use Rattle.record.proofs.head.limit.Statement.{statement}
+use Rattle.record.proofs.head.limit.Tie as tie
 
 signed-requires : tie.Need-signed-requires
 signed-requires c κs = search needs

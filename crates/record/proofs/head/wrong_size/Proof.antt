@@ -1,8 +1,8 @@
 -- Below 13 bytes nothing is read; else the length is compared.
 use borrow.Author.Tests.{lt-ltb, le-ltb}
 use borrow.Author.Needs.{needs}
-use Rattle.fields.proofs.head.wrong_size.Statement.{statement}
-use Rattle.fields.proofs.head.wrong_size.Tie as tie
+use Rattle.record.proofs.head.wrong_size.Statement.{statement}
+use Rattle.record.proofs.head.wrong_size.Tie as tie
 
 length-requires : tie.Need-length-requires
 length-requires c κs = search needs

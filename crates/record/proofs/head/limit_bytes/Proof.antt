@@ -6,8 +6,8 @@ use mir.Val.{SFits}
 use mir.Facts.{toZ-ofZ}
 use Rattle.rules.specs.Record.{spell}
 use borrow.Author.Needs.{needs}
-use Rattle.fields.proofs.head.limit_bytes.Statement.{statement}
-use Rattle.fields.proofs.head.limit_bytes.Tie as tie
+use Rattle.record.proofs.head.limit_bytes.Statement.{statement}
+use Rattle.record.proofs.head.limit_bytes.Tie as tie
 
 enum-told : tie.Need-enum-told
 enum-told c = search needs

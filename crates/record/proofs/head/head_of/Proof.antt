@@ -9,8 +9,8 @@ use Rattle.rules.specs.declared.Limit.{Limit}
 use Rattle.rules.specs.declared.Limit.the-variants.{Absent, At}
 use Rattle.laws.proofs.Spelled.{four-bytes}
 use Rattle.rules.specs.Record.{spell, length-of, bit, head-of}
-use Rattle.fields.proofs.head.head_of.Statement.{statement}
-use Rattle.fields.proofs.head.head_of.Tie as tie
+use Rattle.record.proofs.head.head_of.Statement.{statement}
+use Rattle.record.proofs.head.head_of.Tie as tie
 
 one-bit : (limit : Limit) → bit limit ≤ 1
 one-bit Absent = omega arith

@@ -8,8 +8,8 @@ use Rattle.rules.specs.Record.{head-size}
 use Rattle.rules.specs.Refusals.{size-case}
 use Rattle.laws.proofs.Ruled.{ruled-none, ruled-met, ruled-passed}
 use Rattle.laws.proofs.HeadAccepted.{long-enough}
-use Rattle.fields.proofs.head.head.Statement.{statement}
-use Rattle.fields.proofs.head.head.Tie as tie
+use Rattle.record.proofs.head.head.Statement.{statement}
+use Rattle.record.proofs.head.head.Tie as tie
 
 right-size : (c : tie.Else1) → size-case (c .before .before .before .args .bytes .now) .applies ≡ false
 right-size c = sym (c .before .wrong-size .ensures) ∙ c .if1 .left

@@ -4,8 +4,8 @@ use native.Mathlib.Omega.{arith}
 use Rattle.rules.specs.Record.{spelled}
 use Rattle.laws.proofs.Spelled.{part-two}
 use borrow.Author.Needs.{needs}
-use Rattle.fields.proofs.head.length.Statement.{statement}
-use Rattle.fields.proofs.head.length.Tie as tie
+use Rattle.record.proofs.head.length.Statement.{statement}
+use Rattle.record.proofs.head.length.Tie as tie
 
 shared-slice-read-spelled : tie.Need-shared-slice-read-spelled
 shared-slice-read-spelled c = search needs

@@ -1,9 +1,9 @@
 // The first 13 bytes of a record: length, version, flags, limits and n.
-use crate::number::signed;
-use crate::number::spell;
-use crate::number::spelled;
-use crate::number::unsigned;
-use crate::number::word;
+use fields::number::signed;
+use fields::number::spell;
+use fields::number::spelled;
+use fields::number::unsigned;
+use fields::number::word;
 use rules::Limit;
 use rules::Outcome;
 use rules::Refusal;

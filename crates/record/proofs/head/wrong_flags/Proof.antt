@@ -1,7 +1,7 @@
 -- The flags as they stand, and the two limits' bytes by their numbers.
 use borrow.Author.Needs.{needs}
-use Rattle.fields.proofs.head.wrong_flags.Statement.{statement}
-use Rattle.fields.proofs.head.wrong_flags.Tie as tie
+use Rattle.record.proofs.head.wrong_flags.Statement.{statement}
+use Rattle.record.proofs.head.wrong_flags.Tie as tie
 
 shared-slice-read-flags : tie.Need-shared-slice-read-flags
 shared-slice-read-flags c = search needs

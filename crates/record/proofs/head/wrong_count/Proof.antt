@@ -1,8 +1,8 @@
 -- n is a byte, so 11 + 4n is far from the end of its width.
 use native.Mathlib.Omega.{arith}
 use borrow.Author.Needs.{needs}
-use Rattle.fields.proofs.head.wrong_count.Statement.{statement}
-use Rattle.fields.proofs.head.wrong_count.Tie as tie
+use Rattle.record.proofs.head.wrong_count.Statement.{statement}
+use Rattle.record.proofs.head.wrong_count.Tie as tie
 
 shared-slice-read-n : tie.Need-shared-slice-read-n
 shared-slice-read-n c = search needs

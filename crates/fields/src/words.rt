@@ -1,0 +1,56 @@
+// Readings that come as bytes, four to each, as in a record.
+use crate::number::signed;
+use crate::number::word;
+use readings::pass;
+use rules::MOST;
+use rules::Thousandths;
+use rules::Totals;
+use rules::TotalsAnswer;
+ghost use mathlib.Core.Path.{_≡_};
+ghost use mathlib.Core.Bool.{false};
+ghost use Prim.Native.Nat.{_*_, _≤_};
+ghost use lib.ListN.{length};
+ghost use Rattle.rules.specs.Lot.{most, in-places};
+ghost use Rattle.rules.specs.Record.{fours};
+ghost use Rattle.rules.specs.Refusals.{any-out};
+ghost use Rattle.rules.specs.Answers.{totals-said};
+ghost use Rattle.laws.specs.Totalled.{walk-says};
+
+// What is said of some readings, with their totals, and the readings in their places: of any use where none is out of range.
+pub struct Walked {
+    pub said: TotalsAnswer,
+    pub readings: [Thousandths; MOST],
+}
+
+// One pass over so many readings. Inner: a record's reader and the notebook's row ask for no more than a lot and the bytes hold.
+pub fn walk(bytes: &[u8], n: usize) -> Walked
+    requires { ⌜ (n ≤ most) × (4 * n ≤ length (now bytes)) ⌝ }
+    ensures { λ r. ⌜ totals-said (r .said) ≡ walk-says (fours n (now (bytes .entry))) ⌝ }
+    ensures { λ r. ⌜ (any-out (fours n (now (bytes .entry))) ≡ false → r .readings ≡ in-places n (fours n (now (bytes .entry)))) ⌝ }
+{
+    let mut a = Totals {
+        n: n as u32,
+        t: 0,
+        z: 0,
+    };
+    let mut readings = [Thousandths(0); MOST];
+    let mut i = 0;
+    while i < n {
+        let x = signed(word(bytes, 4 * i));
+        match pass(a, x) {
+            TotalsAnswer::Refused(refusal) => {
+                return Walked {
+                    said: TotalsAnswer::Refused(refusal),
+                    readings: readings,
+                };
+            }
+            TotalsAnswer::Answers(more) => a = more,
+        }
+        readings[i] = Thousandths(x);
+        i += 1;
+    }
+    Walked {
+        said: TotalsAnswer::Answers(a),
+        readings: readings,
+    }
+}

@@ -18,7 +18,7 @@ use Rattle.rules.specs.Lot.{Lot, lot-of, most}
 use Rattle.rules.specs.Table.{Found, table-106-1, entries}
 use Rattle.rules.specs.Percent.{Rule, nearest, totals}
 use Rattle.rules.specs.Refusals.{allowed, count-case, out-of-range, any-out, range-case, unlimited-case, crossed, crossed-case}
-use Rattle.rules.specs.Meets.{readings-meet, lot-meets, counted-meets, evaluation-meets}
+use Rattle.rules.specs.Meets.{readings-meet, limits-meet, lot-meets, counted-meets, evaluation-meets}
 use Rattle.rules.specs.Answers.{totals-said}
 use Rattle.rules.specs.Entries.{percentages-of, percentages, evaluated, evaluation-says}
 use Rattle.laws.specs.Totalled.{totals-says, lot-totals, totalled}
@@ -63,12 +63,18 @@ pub record LotAccepted (lot : Lot) : Type 0 where
   pub near : any-out (lot .readings) ≡ false
   pub uncrossed : crossed (lot .upper) (lot .lower) ≡ false
 
+-- Where it meets nothing after its count, none of its readings is out of range.
+pub readings-near : (lot : Lot) → checked (lot-meets lot) ≡ answers tt → any-out (lot .readings) ≡ false
+readings-near lot e =
+    let range = none-met (range-case (lot .upper) (lot .lower) (lot .readings)) (limits-meet (lot .upper) (lot .lower)) e in
+    neither (out-of-range (lot .upper) || out-of-range (lot .lower)) (any-out (lot .readings)) (range .0) .1
+
 pub lot-accepted : (lot : Lot) → checked (counted-meets lot) ≡ answers tt → LotAccepted lot
 lot-accepted lot e =
     let upper : Limit = lot .upper in
     let lower : Limit = lot .lower in
     let count = none-met (count-case (lot .n)) (lot-meets lot) e in
-    let range = none-met (range-case upper lower (lot .readings)) (unlimited-case upper lower ∷ crossed-case upper lower ∷ []) (count .1) in
+    let range = none-met (range-case upper lower (lot .readings)) (limits-meet upper lower) (count .1) in
     let limited = none-met (unlimited-case upper lower) (crossed-case upper lower ∷ []) (range .1) in
     let n = count-allowed (lot .n) (count .0) in
     let near = neither (out-of-range upper || out-of-range lower) (any-out (lot .readings)) (range .0) in
@@ -78,7 +84,7 @@ lot-accepted lot e =
       few = n .1;
       upper-near = limits .0;
       lower-near = limits .1;
-      near = near .1;
+      near = readings-near lot (count .1);
       uncrossed = none-met (crossed-case upper lower) [] (limited .1) .0;
     }
 

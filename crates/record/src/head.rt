@@ -9,13 +9,15 @@ use rules::Outcome;
 use rules::Refusal;
 use rules::Thousandths;
 ghost use mathlib.Core.Path.{_≡_};
-ghost use Prim.Native.Nat.{_≤_};
+ghost use mathlib.Core.Bool.{not, _||_};
+ghost use Prim.Native.Nat.{_+_, _≤_};
+ghost use lib.Dec.{eqb};
 ghost use lib.ListN.{length};
 ghost use mir.Syntax.{w32};
 ghost use mir.Val.{toZ};
 ghost use Rattle.rules.specs.Said.{checked};
 ghost use Rattle.rules.specs.Lot.{most};
-ghost use Rattle.rules.specs.Record.{head-size, length-field, limit-of, lot-of-record, bit, limit-bytes, head-of};
+ghost use Rattle.rules.specs.Record.{spelled, part, head-size, length-field, limit-of, lot-of-record, bit, limit-bytes, head-of};
 ghost use Rattle.rules.specs.Refusals.{size-case, version-case, flags-case, record-count-case};
 ghost use Rattle.rules.specs.Meets.{head-meets};
 ghost use Rattle.rules.specs.Answers.{outcome-said};
@@ -48,15 +50,25 @@ fn wrong_version(bytes: &[u8]) -> bool
     !(bytes[2] == 1)
 }
 
+// Bytes of an absent limit that are not zero. Those of one that is present are not looked at.
+fn stray(present: bool, bytes: &[u8], at: usize) -> bool
+    requires { ⌜ at + 4 ≤ length (now bytes) ⌝ }
+    ensures { λ r. ⌜ r ≡ not (present || eqb (spelled 0 (part at 4 (now (bytes .entry)))) 0) ⌝ }
+{
+    if present {
+        false
+    } else {
+        !(word(bytes, at) == 0)
+    }
+}
+
 // 3: bits 2 to 7 of byte 3 not all 0, or an absent limit's bytes not zero.
 fn wrong_flags(bytes: &[u8]) -> bool
     requires { ⌜ head-size ≤ length (now bytes) ⌝ }
     ensures { λ r. ⌜ r ≡ flags-case (now (bytes .entry)) .applies ⌝ }
 {
     let flags = bytes[3];
-    !(flags / 4 == 0)
-        | !((flags % 2 == 1) | (word(bytes, 4) == 0))
-        | !((flags / 2 % 2 == 1) | (word(bytes, 8) == 0))
+    !(flags / 4 == 0) | stray(flags % 2 == 1, bytes, 4) | stray(flags / 2 % 2 == 1, bytes, 8)
 }
 
 // 4: n not 2 to 10, or the length isn't 11 + 4n.

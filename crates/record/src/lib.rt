@@ -1,14 +1,14 @@
 // The lot record, read and written.
-use fields::head::HEAD;
-use fields::head::head;
-use fields::head::head_of;
-use fields::head::lower;
-use fields::head::upper;
-use fields::number::signed;
+mod head;
+
 use fields::number::spell;
 use fields::number::unsigned;
-use fields::number::word;
-use lots::thousandths;
+use fields::words::walk;
+use head::HEAD;
+use head::head;
+use head::head_of;
+use head::lower;
+use head::upper;
 use rules::HeldLot;
 use rules::Limit;
 use rules::MOST;
@@ -19,33 +19,17 @@ use rules::Thousandths;
 use rules::TotalsAnswer;
 use rules::WriteAnswer;
 ghost use mathlib.Core.Path.{_≡_};
-ghost use mathlib.Core.List.{_++_};
-ghost use Prim.Native.Nat.{_+_, _*_, _-_, _≤_};
-ghost use lib.IntN.{pos};
-ghost use lib.ListN.{length, take, replicate};
+ghost use Prim.Native.Nat.{_+_, _*_, _≤_};
+ghost use lib.ListN.{take};
 ghost use Rattle.rules.specs.Said.{refused, ruled};
 ghost use Rattle.rules.specs.Lot.{most, lot-in};
-ghost use Rattle.rules.specs.Record.{head-size, fours, lot-of-record, record-of};
+ghost use Rattle.rules.specs.Record.{head-size, lot-of-record, record-of};
 ghost use Rattle.rules.specs.Meets.{lot-meets};
 ghost use Rattle.rules.specs.Answers.{read-said, write-said};
 ghost use Rattle.rules.specs.Entries.{beside, read-leaves, write-says, after-write};
 ghost use Rattle.laws.specs.Head.{HeadAccepted};
 
 const LONGEST: usize = HEAD + 4 * MOST;
-
-// So many numbers of four bytes each, and zeros after them. Inner: a record's reader and the notebook's row ask for no more than the bytes hold.
-pub fn fours(bytes: &[u8], n: usize) -> [i32; MOST]
-    requires { ⌜ (n ≤ most) × (4 * n ≤ length (now bytes)) ⌝ }
-    ensures { λ r. ⌜ r ≡ fours n (now (bytes .entry)) ++ replicate (most - n) (pos 0) ⌝ }
-{
-    let mut numbers = [0; MOST];
-    let mut i = 0;
-    while i < n {
-        numbers[i] = signed(word(bytes, 4 * i));
-        i += 1;
-    }
-    numbers
-}
 
 // A refusal, beside a blank lot.
 fn refused(refusal: Refusal) -> ReadAnswer
@@ -70,8 +54,10 @@ fn lot(bytes: &[u8]) -> ReadAnswer
     let n = bytes[12] as usize;
     let upper = upper(bytes);
     let lower = lower(bytes);
-    let numbers = fours(&bytes[HEAD..], n);
-    match lots::counted(&numbers[..n], upper, lower) {
+    let walked = walk(&bytes[HEAD..], n);
+    let readings = walked.readings;
+    let said = walked.said;
+    match lots::met(said, upper, lower) {
         TotalsAnswer::Refused(refusal) => refused(refusal),
         TotalsAnswer::Answers(_) => ReadAnswer {
             said: Outcome::Answers,
@@ -79,7 +65,7 @@ fn lot(bytes: &[u8]) -> ReadAnswer
                 upper: upper,
                 lower: lower,
                 count: n as u32,
-                readings: thousandths(numbers),
+                readings: readings,
             },
         },
     }

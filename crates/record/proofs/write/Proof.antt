@@ -8,13 +8,14 @@ use borrow.Author.Tests.{le-ltb}
 use lib.ListN.{length, length-map, take, drop}
 use lib.Seq.{length-take-le, take-length}
 use Rattle.rules.specs.declared.HeldLot.{HeldLot}
+use Rattle.rules.specs.declared.Refusal.{Refusal}
 use Rattle.rules.specs.Said.{refused, answers, checked}
 use Rattle.rules.specs.Lot.{Lot, most, lot-in}
 use Rattle.rules.specs.Record.{head-size, record-of}
-use Rattle.rules.specs.Meets.{evaluation-meets, write-meets}
-use Rattle.rules.specs.Answers.{outcome-said}
+use Rattle.rules.specs.Meets.{counted-meets, write-meets}
 use Rattle.rules.specs.Entries.{write-says, written, after-write}
-use Rattle.laws.proofs.Ruled.{ruled-none, ruled-passed, ruled-first, ruled-later, nothing-refused}
+use Rattle.laws.specs.Totalled.{totalled}
+use Rattle.laws.proofs.Ruled.{ruled-none, ruled-passed, ruled-first, ruled-later, totals-answered, totals-refused}
 use Rattle.laws.proofs.Accepted.{LotAccepted, lot-accepted}
 use Rattle.laws.proofs.Lots.{lot-in-counted}
 use Rattle.laws.proofs.Records.{length-record}
@@ -29,15 +30,16 @@ size c few =
     let places : length (lot .readings) ≡ most = sym (length-map (lot .readings) _) ∙ c .good .0 .1 .1 .1 .1 .1 .0 .1 .0 .1 in
     length-record (lot-in lot) ∙ ap (λ (n : ℕ). head-size + 4 * n) (lot-in-counted lot places few)
 
-unrefused : (c : tie.After-enum-told) → checked (evaluation-meets (lot-in (c .before .before .before .before .args .lot))) ≡ answers tt
-unrefused c = nothing-refused _ (c .before .before .held .ensures) (c .enum-told .given .1)
+unrefused : (c : tie.After-enum-told) → checked (counted-meets (lot-in (c .before .before .before .before .args .lot))) ≡ answers tt
+unfolding totalled
+unrefused c = totals-answered _ _ (c .before .before .held .ensures) (c .enum-told .given .1) .0
 
 accepted : (c : tie.After-enum-told) → LotAccepted (lot-in (c .before .before .before .before .args .lot))
 accepted c = lot-accepted _ (unrefused c)
 
--- A refused write, of any number.
-refused-write : (lot : Lot) (out : List ℕ) {k : ℕ} → write-says lot out ≡ refused k → (refused k ≡ write-says lot out) × (out ≡ after-write lot out)
-refused-write lot out {k} e = (sym e, sym (refused-write-keeps lot out k e))
+-- A refused write, whichever the refusal.
+refused-write : (lot : Lot) (out : List ℕ) {r : Refusal} → write-says lot out ≡ refused r → (refused r ≡ write-says lot out) × (out ≡ after-write lot out)
+refused-write lot out {r} e = (sym e, sym (refused-write-keeps lot out r e))
 
 held-requires : tie.Need-held-requires
 held-requires c κs = search needs
@@ -73,11 +75,11 @@ copy-requires : tie.Need-copy-requires
 copy-requires c κs = omega (arith, slice-aggregate-copy (c .before))
 
 returns : tie.Need-returns
-unfolding write-says write-meets
+unfolding write-says write-meets totalled
 returns c =
     let start = c .before .before .before .before .before in
     refused-write (lot-in (start .args .lot)) (start .args .out .now)
-    (ruled-first _ _ _ (sym (c .before .before .before .held .ensures) ∙ ap outcome-said (c .before .refusal .given .1)))
+    (ruled-first _ _ _ (totals-refused _ _ (c .before .before .before .held .ensures) tt (c .before .refusal .given .1)))
 
 returns-2 : tie.Need-returns-2
 returns-2 c =

@@ -1,12 +1,14 @@
-// Answers as the plain numbers that a host in C is given, and its numbers as a limit.
+// Answers as the plain numbers that a host in C is given, and its numbers as a limit and as a lot.
+pub mod lot;
+
 use rules::DeviationAnswer;
 use rules::Evaluation;
 use rules::Limit;
 use rules::Limits;
 use rules::MeanAnswer;
 use rules::MixtureAnswer;
-use rules::Outcome;
 use rules::PayAnswer;
+use rules::Refusal;
 use rules::Thousandths;
 use rules::Verdict;
 use rules::WriteAnswer;
@@ -16,19 +18,22 @@ use rules::host::HostMixtureLimits;
 use rules::host::HostPair;
 use rules::host::HostPayment;
 use rules::host::HostPercentages;
+use rules::host::HostRefusal;
 use rules::host::HostWritten;
 ghost use mathlib.Core.Path.{_≡_};
-ghost use Rattle.rules.specs.Notebook.{lent-limit, refusal-asked};
-ghost use Rattle.rules.specs.Answers.{outcome-said, mean-said, deviation-said, evaluation-said, pay-said, mixture-said, write-said};
-ghost use Rattle.rules.specs.Host.{host-mean, host-deviation, host-percentages, verdict-number, host-payment, host-pair, host-mixture-limits, host-written};
+ghost use Rattle.rules.specs.Notebook.{lent-limit};
+ghost use Rattle.rules.specs.Answers.{mean-said, deviation-said, evaluation-said, pay-said, mixture-said, write-said};
+ghost use Rattle.rules.specs.Host.{refusal-part, host-mean, host-deviation, host-percentages, verdict-number, host-payment, host-pair, host-mixture-limits, host-written};
 
-// The refusal, 0 for none.
-pub fn refusal(said: Outcome) -> u32
-    ensures { λ r. ⌜ r ≡ refusal-asked (outcome-said said) ⌝ }
+// The part with which every answer begins: of what is not refused,
+pub const UNREFUSED: HostRefusal = HostRefusal { number: 0 };
+
+// and of what is.
+pub fn refused(refusal: Refusal) -> HostRefusal
+    ensures { λ r. ⌜ r ≡ refusal-part refusal ⌝ }
 {
-    match said {
-        Outcome::Refused(refusal) => refusal.number(),
-        Outcome::Answers => 0,
+    HostRefusal {
+        number: refusal.number(),
     }
 }
 
@@ -48,12 +53,12 @@ pub fn mean(answer: MeanAnswer) -> HostMean
 {
     match answer {
         MeanAnswer::Refused(refusal) => HostMean {
-            refusal: refusal.number(),
+            refusal: refused(refusal),
             total: 0,
             count: 0,
         },
         MeanAnswer::Answers(mean) => HostMean {
-            refusal: 0,
+            refusal: UNREFUSED,
             total: mean.total.0,
             count: mean.count,
         },
@@ -65,11 +70,11 @@ pub fn deviation(answer: DeviationAnswer) -> HostDeviation
 {
     match answer {
         DeviationAnswer::Refused(refusal) => HostDeviation {
-            refusal: refusal.number(),
+            refusal: refused(refusal),
             deviation: 0,
         },
         DeviationAnswer::Answers(s) => HostDeviation {
-            refusal: 0,
+            refusal: UNREFUSED,
             deviation: s.0,
         },
     }
@@ -80,13 +85,13 @@ pub fn percentages(answer: Evaluation) -> HostPercentages
 {
     match answer {
         Evaluation::Refused(refusal) => HostPercentages {
-            refusal: refusal.number(),
+            refusal: refused(refusal),
             upper: 0,
             lower: 0,
             pwl: 0,
         },
         Evaluation::Answers(p) => HostPercentages {
-            refusal: 0,
+            refusal: UNREFUSED,
             upper: p.upper.0,
             lower: p.lower.0,
             pwl: p.pwl.0,
@@ -108,7 +113,7 @@ pub fn payment(answer: PayAnswer) -> HostPayment
 {
     match answer {
         PayAnswer::Refused(refusal) => HostPayment {
-            refusal: refusal.number(),
+            refusal: refused(refusal),
             composite: 0,
             vma: 0,
             voids: 0,
@@ -122,7 +127,7 @@ pub fn payment(answer: PayAnswer) -> HostPayment
             let density = p.density;
             let lot = p.lot;
             HostPayment {
-                refusal: 0,
+                refusal: UNREFUSED,
                 composite: p.composite.0,
                 vma: verdict(vma),
                 voids: verdict(voids),
@@ -148,13 +153,13 @@ pub fn mixture_limits(answer: MixtureAnswer) -> HostMixtureLimits
 {
     match answer {
         MixtureAnswer::Refused(refusal) => HostMixtureLimits {
-            refusal: refusal.number(),
+            refusal: refused(refusal),
             vma: HostPair { lower: 0, upper: 0 },
             voids: HostPair { lower: 0, upper: 0 },
             density: HostPair { lower: 0, upper: 0 },
         },
         MixtureAnswer::Answers(l) => HostMixtureLimits {
-            refusal: 0,
+            refusal: UNREFUSED,
             vma: pair(l.vma),
             voids: pair(l.voids),
             density: pair(l.density),
@@ -167,11 +172,11 @@ pub fn written(answer: WriteAnswer) -> HostWritten
 {
     match answer {
         WriteAnswer::Refused(refusal) => HostWritten {
-            refusal: refusal.number(),
+            refusal: refused(refusal),
             size: 0,
         },
         WriteAnswer::Answers(size) => HostWritten {
-            refusal: 0,
+            refusal: UNREFUSED,
             size: size,
         },
     }

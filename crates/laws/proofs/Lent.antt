@@ -70,7 +70,7 @@ module _ (upper lower : Limit) (bs : List ℕ) where
   n = length bs / 4
 
   -- The lot of some bytes is the lent list of the numbers that they spell.
-  pub listed : lent-lot upper lower bs ≡ lot-of upper lower (fours n bs)
+  listed : lent-lot upper lower bs ≡ lot-of upper lower (fours n bs)
   unfolding lent-lot
   listed = λ i. record { n = sym (length-fours n bs) i; upper = upper; lower = lower; readings = fours n bs }
 
@@ -84,10 +84,10 @@ module _ (upper lower : Limit) (bs : List ℕ) where
       ∙ sym (ruled-passed (count-case n) (lot-meets lot) a (ap not few))
       ∙ ap (λ (l : Lot). ruled (counted-meets l) a) listed
 
-  -- and have its totals.
-  pub fitting-totals : size-fits (length bs) ≡ true → totalled (row-meets bs) (lent-lot upper lower bs) ≡ totalled counted-meets (lot-of upper lower (fours n bs))
-  unfolding totalled
-  fitting-totals e = fitting-meets (lot-totals (lent-lot upper lower bs)) e ∙ ap (λ (l : Lot). ruled (counted-meets (lot-of upper lower (fours n bs))) (lot-totals l)) listed
+  -- and after their size what a lot of those numbers does after its count.
+  pub fitting-totals : size-fits (length bs) ≡ true → totalled (row-meets bs) (lent-lot upper lower bs) ≡ totalled lot-meets (lot-of upper lower (fours n bs))
+  unfolding totalled row-meets
+  fitting-totals e = ruled-passed (bytes-count-case bs) _ _ (ap not e) ∙ ap (totalled lot-meets) listed
 
   module _ {t : TotalsAnswer} (e : totals-said t ≡ totalled (row-meets bs) (lent-lot upper lower bs)) where
     pub lent-accepted : {a : Totals} → t ≡ TotalsAnswer.Answers a → LentAccepted upper lower bs a

@@ -1,43 +1,37 @@
 // The notebook's row: mean, deviation and PWL as doubles, of readings that come as bytes.
+use fields::words::walk;
+use host::UNREFUSED;
+use host::refused;
+use lots::met;
 use quality::percentages;
 use readings::rounded;
 use readings::spread;
-use readings::totals;
-use record::fours;
 use refusals::allowed;
 use rules::Limit;
-use rules::Outcome;
 use rules::Refusal;
 use rules::Row;
 use rules::RowAnswer;
 use rules::Totals;
+use rules::TotalsAnswer;
+use rules::host::HostRefusal;
 ghost use mathlib.Core.Path.{_≡_};
 ghost use mathlib.Core.Bool.{false};
-ghost use Prim.Native.Nat.{_*_, _/_};
+ghost use Prim.Native.Nat.{_*_};
 ghost use lib.IntN.{pos};
-ghost use lib.ListN.{length};
-ghost use Rattle.rules.specs.Said.{ruled};
-ghost use Rattle.rules.specs.Lot.{lot-of};
-ghost use Rattle.rules.specs.Table.{table-106-1};
-ghost use Rattle.rules.specs.Percent.{nearest, totals, spread};
+ghost use Rattle.rules.specs.Table.{table-106-1, entries};
+ghost use Rattle.rules.specs.Percent.{nearest, spread};
 ghost use Rattle.rules.specs.Deviation.{deviation};
-ghost use Rattle.rules.specs.Record.{fours};
-ghost use Rattle.rules.specs.Refusals.{told, out-of-range, size-fits};
-ghost use Rattle.rules.specs.Meets.{evaluation-meets, row-meets};
-ghost use Rattle.rules.specs.Notebook.{lent-lot, over, refusal-asked, mean-asked, deviation-asked, pwl-asked};
-ghost use Rattle.rules.specs.Answers.{row-said};
+ghost use Rattle.rules.specs.Refusals.{out-of-range, size-fits};
+ghost use Rattle.rules.specs.Meets.{row-meets};
+ghost use Rattle.rules.specs.Notebook.{lent-lot, over, mean-asked, deviation-asked, pwl-asked};
+ghost use Rattle.rules.specs.Answers.{totals-said, row-said};
 ghost use Rattle.rules.specs.Entries.{percentages-of, row-says};
+ghost use Rattle.rules.specs.Host.{host-refusal};
 ghost use Rattle.laws.specs.Bounds.{Bounded};
-ghost use Rattle.laws.specs.Lent.{with-totals};
+ghost use Rattle.laws.specs.Totalled.{totalled};
 
 // Each double of a refused lot.
 const REFUSED: f64 = 0.0;
-
-// What is said of a lot that is lent, and its totals where it is not refused.
-struct LentLot {
-    said: Outcome,
-    totals: Totals,
-}
 
 // Four bytes to each of an allowed number of readings.
 fn fits(size: usize) -> bool
@@ -46,36 +40,16 @@ fn fits(size: usize) -> bool
     (size % 4 == 0) & allowed(size / 4)
 }
 
-fn refused(refusal: Refusal) -> LentLot
-    ensures { λ r. ⌜ with-totals (r .said) (r .totals) ≡ told refusal ⌝ }
+// What a lot meets whose readings come as bytes, 4 to 7, and its totals.
+fn lent(bytes: &[u8], upper: Limit, lower: Limit) -> TotalsAnswer
+    ensures { λ r. ⌜ totals-said r ≡ totalled (row-meets (now (bytes .entry))) (lent-lot upper lower (now (bytes .entry))) ⌝ }
 {
-    LentLot {
-        said: Outcome::Refused(refusal),
-        totals: Totals { n: 0, t: 0, z: 0 },
-    }
-}
-
-fn totalled(readings: &[i32], upper: Limit, lower: Limit) -> LentLot
-    ensures { λ r. ⌜ with-totals (r .said) (r .totals) ≡ ruled (evaluation-meets (lot-of upper lower (now (readings .entry)))) (totals (length (now (readings .entry))) (now (readings .entry))) ⌝ }
-{
-    match refusals::evaluation(readings, upper, lower) {
-        Outcome::Refused(refusal) => refused(refusal),
-        Outcome::Answers => LentLot {
-            said: Outcome::Answers,
-            totals: totals(readings),
-        },
-    }
-}
-
-fn lent(bytes: &[u8], upper: Limit, lower: Limit) -> LentLot
-    ensures { λ r. ⌜ with-totals (r .said) (r .totals) ≡ ruled (row-meets (now (bytes .entry)) (lent-lot upper lower (now (bytes .entry)))) (totals (length (now (bytes .entry)) / 4) (fours (length (now (bytes .entry)) / 4) (now (bytes .entry)))) ⌝ }
-{
-    let n = bytes.len() / 4;
     if fits(bytes.len()) {
-        let numbers = fours(bytes, n);
-        totalled(&numbers[..n], upper, lower)
+        let walked = walk(bytes, bytes.len() / 4);
+        let said = walked.said;
+        met(said, upper, lower)
     } else {
-        refused(Refusal::Count)
+        TotalsAnswer::Refused(Refusal::Count)
     }
 }
 
@@ -96,7 +70,7 @@ fn deviation_of(a: Totals) -> f64
 
 fn pwl_of(a: Totals, upper: Limit, lower: Limit) -> f64
     requires { ⌜ Bounded a × (out-of-range upper ≡ false) × (out-of-range lower ≡ false) ⌝ }
-    ensures { λ r. ⌜ r ≡ over (percentages-of nearest table-106-1 a upper lower .pwl .0) 100 ⌝ }
+    ensures { λ r. ⌜ r ≡ over (percentages-of nearest (entries (table-106-1 (a .n))) a upper lower .pwl .0) 100 ⌝ }
 {
     let p = percentages(a, upper, lower);
     p.pwl.0 as i32 as f64 / 100 as f64
@@ -106,56 +80,49 @@ fn pwl_of(a: Totals, upper: Limit, lower: Limit) -> f64
 pub fn row(bytes: &[u8], upper: Limit, lower: Limit) -> RowAnswer
     ensures { λ r. ⌜ row-said r ≡ row-says upper lower (now (bytes .entry)) ⌝ }
 {
-    let lot = lent(bytes, upper, lower);
-    let said = lot.said;
-    match said {
-        Outcome::Refused(refusal) => RowAnswer::Refused(refusal),
-        Outcome::Answers => RowAnswer::Answers(Row {
-            mean: mean_of(lot.totals),
-            deviation: deviation_of(lot.totals),
-            pwl: pwl_of(lot.totals, upper, lower),
+    match lent(bytes, upper, lower) {
+        TotalsAnswer::Refused(refusal) => RowAnswer::Refused(refusal),
+        TotalsAnswer::Answers(a) => RowAnswer::Answers(Row {
+            mean: mean_of(a),
+            deviation: deviation_of(a),
+            pwl: pwl_of(a, upper, lower),
         }),
     }
 }
 
 // The refusal alone, and each double alone: the deviation's search is not run for another's sake.
-pub fn refusal(bytes: &[u8], upper: Limit, lower: Limit) -> u32
-    ensures { λ r. ⌜ r ≡ refusal-asked (row-says upper lower (now (bytes .entry))) ⌝ }
+pub fn refusal(bytes: &[u8], upper: Limit, lower: Limit) -> HostRefusal
+    ensures { λ r. ⌜ r ≡ host-refusal (row-says upper lower (now (bytes .entry))) ⌝ }
 {
-    let lot = lent(bytes, upper, lower);
-    let said = lot.said;
-    host::refusal(said)
+    match lent(bytes, upper, lower) {
+        TotalsAnswer::Refused(refusal) => refused(refusal),
+        TotalsAnswer::Answers(_) => UNREFUSED,
+    }
 }
 
 pub fn mean(bytes: &[u8], upper: Limit, lower: Limit) -> f64
     ensures { λ r. ⌜ r ≡ mean-asked (row-says upper lower (now (bytes .entry))) ⌝ }
 {
-    let lot = lent(bytes, upper, lower);
-    let said = lot.said;
-    match said {
-        Outcome::Refused(_) => REFUSED,
-        Outcome::Answers => mean_of(lot.totals),
+    match lent(bytes, upper, lower) {
+        TotalsAnswer::Refused(_) => REFUSED,
+        TotalsAnswer::Answers(a) => mean_of(a),
     }
 }
 
 pub fn deviation(bytes: &[u8], upper: Limit, lower: Limit) -> f64
     ensures { λ r. ⌜ r ≡ deviation-asked (row-says upper lower (now (bytes .entry))) ⌝ }
 {
-    let lot = lent(bytes, upper, lower);
-    let said = lot.said;
-    match said {
-        Outcome::Refused(_) => REFUSED,
-        Outcome::Answers => deviation_of(lot.totals),
+    match lent(bytes, upper, lower) {
+        TotalsAnswer::Refused(_) => REFUSED,
+        TotalsAnswer::Answers(a) => deviation_of(a),
     }
 }
 
 pub fn pwl(bytes: &[u8], upper: Limit, lower: Limit) -> f64
     ensures { λ r. ⌜ r ≡ pwl-asked (row-says upper lower (now (bytes .entry))) ⌝ }
 {
-    let lot = lent(bytes, upper, lower);
-    let said = lot.said;
-    match said {
-        Outcome::Refused(_) => REFUSED,
-        Outcome::Answers => pwl_of(lot.totals, upper, lower),
+    match lent(bytes, upper, lower) {
+        TotalsAnswer::Refused(_) => REFUSED,
+        TotalsAnswer::Answers(a) => pwl_of(a, upper, lower),
     }
 }

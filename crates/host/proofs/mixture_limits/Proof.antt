@@ -6,8 +6,8 @@ use Rattle.host.proofs.mixture_limits.Tie as tie
 enum-known-answer : tie.Need-enum-known-answer
 enum-known-answer c = search needs
 
-number-requires : tie.Need-number-requires
-number-requires c κs = search needs
+refused-requires : tie.Need-refused-requires
+refused-requires c κs = search needs
 
 enum-known-answer-2 : tie.Need-enum-known-answer-2
 enum-known-answer-2 c = search needs
@@ -22,7 +22,7 @@ pair-requires-3 : tie.Need-pair-requires-3
 pair-requires-3 c κs = search needs
 
 returns : tie.Need-returns
-returns c = rw (c .before .before .answer .given .1, c .number .ensures)
+returns c = rw (c .before .before .answer .given .1, c .refused .ensures)
 
 returns-2 : tie.Need-returns-2
 returns-2 c =
@@ -33,7 +33,7 @@ mixture-limits-spec =
     tie.close
     (tie.spec
     enum-known-answer
-    number-requires
+    refused-requires
     enum-known-answer-2
     pair-requires
     pair-requires-2

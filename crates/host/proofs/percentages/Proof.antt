@@ -6,18 +6,18 @@ use Rattle.host.proofs.percentages.Tie as tie
 enum-known-answer : tie.Need-enum-known-answer
 enum-known-answer c = search needs
 
-number-requires : tie.Need-number-requires
-number-requires c κs = search needs
+refused-requires : tie.Need-refused-requires
+refused-requires c κs = search needs
 
 enum-known-answer-2 : tie.Need-enum-known-answer-2
 enum-known-answer-2 c = search needs
 
 returns : tie.Need-returns
-returns c = rw (c .before .before .answer .given .1, c .number .ensures)
+returns c = rw (c .before .before .answer .given .1, c .refused .ensures)
 
 returns-2 : tie.Need-returns-2
 returns-2 c = rw (c .before .before .answer2 .given .1) (search needs)
 
 pub percentages-spec : {M : Type 1} → statement M
 percentages-spec =
-    tie.close (tie.spec enum-known-answer number-requires enum-known-answer-2 returns returns-2)
+    tie.close (tie.spec enum-known-answer refused-requires enum-known-answer-2 returns returns-2)

@@ -7,8 +7,8 @@ use Rattle.laws.proofs.Lent.{LentAccepted, lent-accepted, lent-refused}
 use Rattle.notebook.proofs.mean.Statement.{statement}
 use Rattle.notebook.proofs.mean.Tie as tie
 
-accepted : (c : tie.After-enum-told2) → LentAccepted (c .before .before .before .before .args .upper) (c .before .before .before .before .args .lower) (c .before .before .before .before .args .bytes .now) (c .before .before .lent .result .totals)
-accepted c = lent-accepted _ _ _ _ _ (c .before .before .lent .ensures) (c .enum-told2 .given .1)
+accepted : (c : tie.After-a) → LentAccepted (c .before .before .before .before .args .upper) (c .before .before .before .before .args .lower) (c .before .before .before .before .args .bytes .now) (c .a .given .0 .0)
+accepted c = lent-accepted _ _ _ (c .before .before .lent .ensures) (c .a .given .1)
 
 lent-requires : tie.Need-lent-requires
 lent-requires c κs = search needs
@@ -16,19 +16,19 @@ lent-requires c κs = search needs
 enum-told : tie.Need-enum-told
 enum-told c = search needs
 
-enum-told-2 : tie.Need-enum-told-2
-enum-told-2 c = search needs
+enum-known-a : tie.Need-enum-known-a
+enum-known-a c = search needs
 
 mean-of-requires : tie.Need-mean-of-requires
-mean-of-requires c κs = accepted c .bounded
+mean-of-requires c κs = accepted (c .before) .bounded
 
 returns : tie.Need-returns
 unfolding ofBits
-returns c = sym (ap mean-asked (lent-refused _ _ _ _ _ (c .before .before .lent .ensures) (c .enum-told .given .1)))
+returns c = sym (ap mean-asked (lent-refused _ _ _ (c .before .before .lent .ensures) (c .enum-told .given .1)))
 
 returns-2 : tie.Need-returns-2
 unfolding row-of
-returns-2 c = c .mean-of .ensures ∙ sym (ap mean-asked (accepted (c .before) .row))
+returns-2 c = c .mean-of .ensures ∙ sym (ap mean-asked (accepted (c .before .before) .row))
 
 pub mean-spec : {M : Type 1} → statement M
-mean-spec = tie.close (tie.spec lent-requires enum-told enum-told-2 mean-of-requires returns returns-2)
+mean-spec = tie.close (tie.spec lent-requires enum-told enum-known-a mean-of-requires returns returns-2)

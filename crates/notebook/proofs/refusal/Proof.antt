@@ -1,26 +1,30 @@
--- What is said of the lent lot is what is said of its row.
-use mathlib.Core.Path.{_≡_, refl, sym, ap, _∙_}
+-- The refusal of the lent lot is that of its row.
+use mathlib.Core.Path.{sym, ap, _∙_}
 use borrow.Author.Needs.{needs}
-use Rattle.rules.specs.declared.Outcome.{Outcome}
-use Rattle.rules.specs.Notebook.{refusal-asked}
-use Rattle.rules.specs.Answers.{outcome-said}
-use Rattle.rules.specs.Entries.{row-says}
+use Rattle.rules.specs.Host.{host-refusal}
 use Rattle.laws.proofs.Lent.{lent-accepted, lent-refused}
 use Rattle.notebook.proofs.refusal.Statement.{statement}
 use Rattle.notebook.proofs.refusal.Tie as tie
 
-said-of-row : (c : tie.After-lent) (o : Outcome) → c .lent .result .said ≡ o → refusal-asked (outcome-said o) ≡ refusal-asked (row-says (c .before .before .args .upper) (c .before .before .args .lower) (c .before .before .args .bytes .now))
-said-of-row c Outcome.Answers e = sym (ap refusal-asked (lent-accepted _ _ _ _ _ (c .lent .ensures) e .row))
-said-of-row c (Outcome.Refused refusal) e = sym (ap refusal-asked (lent-refused _ _ _ _ _ (c .lent .ensures) e))
-
 lent-requires : tie.Need-lent-requires
 lent-requires c κs = search needs
 
-refusal-requires : tie.Need-refusal-requires
-refusal-requires c κs = search needs
+enum-known-refusal : tie.Need-enum-known-refusal
+enum-known-refusal c = search needs
+
+refused-requires : tie.Need-refused-requires
+refused-requires c κs = search needs
+
+enum-told : tie.Need-enum-told
+enum-told c = search needs
 
 returns : tie.Need-returns
-returns c = c .refusal .ensures ∙ said-of-row (c .before) _ refl
+returns c =
+    c .refused .ensures
+    ∙ sym (ap host-refusal (lent-refused _ _ _ (c .before .before .before .before .lent .ensures) (c .before .before .refusal .given .1)))
+
+returns-2 : tie.Need-returns-2
+returns-2 c = sym (ap host-refusal (lent-accepted _ _ _ (c .before .before .lent .ensures) (c .enum-told .given .1) .row))
 
 pub refusal-spec : {M : Type 1} → statement M
-refusal-spec = tie.close (tie.spec lent-requires refusal-requires returns)
+refusal-spec = tie.close (tie.spec lent-requires enum-known-refusal refused-requires enum-told returns returns-2)

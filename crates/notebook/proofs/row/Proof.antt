@@ -11,43 +11,43 @@ use Rattle.notebook.proofs.row.Tie as tie
 abbrev answer : Row → Said Row
 answer row = answers row
 
-accepted : (c : tie.After-enum-told) → LentAccepted (c .before .before .before .before .args .upper) (c .before .before .before .before .args .lower) (c .before .before .before .before .args .bytes .now) (c .before .before .lent .result .totals)
-accepted c = lent-accepted _ _ _ _ _ (c .before .before .lent .ensures) (c .enum-told .given .1)
+accepted : (c : tie.After-a) → LentAccepted (c .before .before .before .before .args .upper) (c .before .before .before .before .args .lower) (c .before .before .before .before .args .bytes .now) (c .a .given .0 .0)
+accepted c = lent-accepted _ _ _ (c .before .before .lent .ensures) (c .a .given .1)
 
 lent-requires : tie.Need-lent-requires
 lent-requires c κs = search needs
 
-enum-known-said : tie.Need-enum-known-said
-enum-known-said c = search needs
+enum-known-refusal : tie.Need-enum-known-refusal
+enum-known-refusal c = search needs
 
-enum-told : tie.Need-enum-told
-enum-told c = search needs
+enum-known-a : tie.Need-enum-known-a
+enum-known-a c = search needs
 
 mean-of-requires : tie.Need-mean-of-requires
-mean-of-requires c κs = accepted c .bounded
+mean-of-requires c κs = accepted (c .before) .bounded
 
 deviation-of-requires : tie.Need-deviation-of-requires
-deviation-of-requires c κs = accepted (c .before) .bounded
+deviation-of-requires c κs = accepted (c .before .before) .bounded
 
 pwl-of-requires : tie.Need-pwl-of-requires
-pwl-of-requires c κs = let h = accepted (c .before .before) in (h .bounded, h .upper-near, h .lower-near)
+pwl-of-requires c κs = let h = accepted (c .before .before .before) in (h .bounded, h .upper-near, h .lower-near)
 
 returns : tie.Need-returns
-returns c = sym (lent-refused _ _ _ _ _ (c .before .before .before .lent .ensures) (c .before .said .given .1))
+returns c = sym (lent-refused _ _ _ (c .before .before .before .lent .ensures) (c .before .refusal .given .1))
 
 returns-2 : tie.Need-returns-2
 unfolding row-of
 returns-2 c =
     ap answer (λ i. record { mean = c .before .before .mean-of .ensures i; deviation = c .before .deviation-of .ensures i; pwl = c .pwl-of .ensures i })
-    ∙ sym (accepted (c .before .before .before) .row)
+    ∙ sym (accepted (c .before .before .before .before) .row)
 
 pub row-spec : {M : Type 1} → statement M
 row-spec =
     tie.close
     (tie.spec
     lent-requires
-    enum-known-said
-    enum-told
+    enum-known-refusal
+    enum-known-a
     mean-of-requires
     deviation-of-requires
     pwl-of-requires

@@ -1,17 +1,20 @@
 // A lot as a host in C holds it, and back.
-use host::limit;
-use host::refusal;
-use places::numbers;
+use crate::UNREFUSED;
+use crate::limit;
+use crate::refused;
+use lots::numbers;
 use rules::HeldLot;
 use rules::Limit;
+use rules::Outcome;
 use rules::ReadAnswer;
 use rules::Thousandths;
 use rules::host::HostLimit;
 use rules::host::HostLot;
 use rules::host::HostRead;
+use rules::host::HostRefusal;
 ghost use mathlib.Core.Path.{_≡_};
-ghost use Rattle.rules.specs.Answers.{read-said};
-ghost use Rattle.rules.specs.Host.{held-limit, held-lot, limit-numbers, host-lot, host-read};
+ghost use Rattle.rules.specs.Answers.{outcome-said, read-said};
+ghost use Rattle.rules.specs.Host.{host-refusal, held-limit, held-lot, limit-numbers, host-lot, host-read};
 
 fn held_limit(given: HostLimit) -> Limit
     ensures { λ r. ⌜ r ≡ held-limit given ⌝ }
@@ -81,12 +84,21 @@ fn host_lot(lot: HeldLot) -> HostLot
     }
 }
 
+fn said_part(said: Outcome) -> HostRefusal
+    ensures { λ r. ⌜ r ≡ host-refusal (outcome-said said) ⌝ }
+{
+    match said {
+        Outcome::Refused(refusal) => refused(refusal),
+        Outcome::Answers => UNREFUSED,
+    }
+}
+
 pub fn read(answer: ReadAnswer) -> HostRead
     ensures { λ r. ⌜ r ≡ host-read (read-said answer) ⌝ }
 {
     let said = answer.said;
     HostRead {
-        refusal: refusal(said),
+        refusal: said_part(said),
         lot: host_lot(answer.lot),
     }
 }

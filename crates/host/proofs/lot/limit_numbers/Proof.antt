@@ -1,7 +1,7 @@
 -- Case by case the numbers are the definition's, and a limit's number fits.
 use borrow.Author.Needs.{needs}
-use Rattle.hostlot.proofs.limit_numbers.Statement.{statement}
-use Rattle.hostlot.proofs.limit_numbers.Tie as tie
+use Rattle.host.proofs.lot.limit_numbers.Statement.{statement}
+use Rattle.host.proofs.lot.limit_numbers.Tie as tie
 
 enum-told : tie.Need-enum-told
 enum-told c = search needs

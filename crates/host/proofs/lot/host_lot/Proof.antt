@@ -2,8 +2,8 @@
 use borrow.Author.Needs.{needs, sfits-of}
 use mir.Facts.{toZ-ofZ}
 use Rattle.rules.specs.Host.{host-lot}
-use Rattle.hostlot.proofs.host_lot.Statement.{statement}
-use Rattle.hostlot.proofs.host_lot.Tie as tie
+use Rattle.host.proofs.lot.host_lot.Statement.{statement}
+use Rattle.host.proofs.lot.host_lot.Tie as tie
 
 numbers-requires : tie.Need-numbers-requires
 numbers-requires c κs = search needs

@@ -1,8 +1,8 @@
 -- The limits are those of their numbers, and each of the ten numbers fits.
 use borrow.Author.Needs.{needs, sfits-of}
 use mir.Facts.{toZ-ofZ}
-use Rattle.hostlot.proofs.held_lot.Statement.{statement}
-use Rattle.hostlot.proofs.held_lot.Tie as tie
+use Rattle.host.proofs.lot.held_lot.Statement.{statement}
+use Rattle.host.proofs.lot.held_lot.Tie as tie
 
 held-limit-requires : tie.Need-held-limit-requires
 held-limit-requires c κs = search needs

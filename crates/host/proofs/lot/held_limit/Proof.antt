@@ -1,8 +1,8 @@
 -- The limit of the two numbers, of which the first fits.
 use borrow.Author.Needs.{needs, sfits-of}
 use mir.Facts.{toZ-ofZ}
-use Rattle.hostlot.proofs.held_limit.Statement.{statement}
-use Rattle.hostlot.proofs.held_limit.Tie as tie
+use Rattle.host.proofs.lot.held_limit.Statement.{statement}
+use Rattle.host.proofs.lot.held_limit.Tie as tie
 
 limit-requires : tie.Need-limit-requires
 limit-requires c κs = search needs

@@ -34,22 +34,22 @@ CALL(evaluate, struct tulpavice_percentages)
     const struct tulpavice_lot *lot = &inputs->lots[i];
     return who->evaluate(lot->readings, lot->count, lot->upper, lot->upper_present, lot->lower, lot->lower_present);
 }
-LOOP(evaluate, struct tulpavice_percentages, a.refusal + a.upper + a.lower + a.pwl)
-ANSWER(evaluate, struct tulpavice_percentages, a.refusal, a.upper, a.lower, a.pwl)
+LOOP(evaluate, struct tulpavice_percentages, a.refusal.number + a.upper + a.lower + a.pwl)
+ANSWER(evaluate, struct tulpavice_percentages, a.refusal.number, a.upper, a.lower, a.pwl)
 
 CALL(evaluate_lot, struct tulpavice_percentages)
 {
     return who->evaluate_lot(inputs->lots[i]);
 }
-LOOP(evaluate_lot, struct tulpavice_percentages, a.refusal + a.upper + a.lower + a.pwl)
-ANSWER(evaluate_lot, struct tulpavice_percentages, a.refusal, a.upper, a.lower, a.pwl)
+LOOP(evaluate_lot, struct tulpavice_percentages, a.refusal.number + a.upper + a.lower + a.pwl)
+ANSWER(evaluate_lot, struct tulpavice_percentages, a.refusal.number, a.upper, a.lower, a.pwl)
 
 CALL(read, struct tulpavice_read)
 {
     return who->read(inputs->records[i].bytes, inputs->records[i].size);
 }
-LOOP(read, struct tulpavice_read, a.refusal + a.lot.count + (uint32_t)a.lot.readings[1])
-ANSWER(read, struct tulpavice_read, a.refusal, a.lot.upper, a.lot.upper_present, a.lot.lower, a.lot.lower_present,
+LOOP(read, struct tulpavice_read, a.refusal.number + a.lot.count + (uint32_t)a.lot.readings[1])
+ANSWER(read, struct tulpavice_read, a.refusal.number, a.lot.upper, a.lot.upper_present, a.lot.lower, a.lot.lower_present,
        a.lot.count, a.lot.readings[0], a.lot.readings[1], a.lot.readings[2], a.lot.readings[3], a.lot.readings[4],
        a.lot.readings[5], a.lot.readings[6], a.lot.readings[7], a.lot.readings[8], a.lot.readings[9])
 
@@ -60,14 +60,14 @@ CALL(write, struct tulpavice_written)
     return who->write(inputs->lots[i], out, inputs->rooms[i]);
 }
 /* a refused write leaves what the one before it wrote */
-LOOP(write, struct tulpavice_written, a.refusal + a.size + (a.refusal ? 0 : out[a.size / 2]))
+LOOP(write, struct tulpavice_written, a.refusal.number + a.size + (a.refusal.number ? 0 : out[a.size / 2]))
 
 /* What lies past a record, or under a refused one, is to stay: the whole memory is part of the answer. */
 static size_t answer_write(const struct calculator *who, const struct inputs *inputs, size_t i, int64_t *taken)
 {
     memset(out, 0xA5, sizeof out);
     struct tulpavice_written a = call_write(who, inputs, i);
-    taken[0] = a.refusal;
+    taken[0] = a.refusal.number;
     taken[1] = (int64_t)a.size;
     for (size_t j = 0; j < sizeof out; j++)
         taken[2 + j] = out[j];
@@ -79,31 +79,31 @@ CALL(pay, struct tulpavice_payment)
     const struct sale *sale = &inputs->sales[i];
     return who->pay(sale->vma, sale->voids, sale->density, sale->price, sale->quantity);
 }
-LOOP(pay, struct tulpavice_payment, a.refusal + a.composite + a.lot + a.pay)
-ANSWER(pay, struct tulpavice_payment, a.refusal, a.composite, a.vma, a.voids, a.density, a.lot, a.pay)
+LOOP(pay, struct tulpavice_payment, a.refusal.number + a.composite + a.lot + a.pay)
+ANSWER(pay, struct tulpavice_payment, a.refusal.number, a.composite, a.vma, a.voids, a.density, a.lot, a.pay)
 
 CALL(mixture, struct tulpavice_mixture_limits)
 {
     const struct lookup *lookup = &inputs->lookups[i];
     return who->mixture(lookup->mixture, lookup->minimum, lookup->target);
 }
-LOOP(mixture, struct tulpavice_mixture_limits, a.refusal + (uint32_t)a.vma_upper + (uint32_t)a.density_lower)
-ANSWER(mixture, struct tulpavice_mixture_limits, a.refusal, a.vma_lower, a.vma_upper, a.voids_lower, a.voids_upper,
+LOOP(mixture, struct tulpavice_mixture_limits, a.refusal.number + (uint32_t)a.vma_upper + (uint32_t)a.density_lower)
+ANSWER(mixture, struct tulpavice_mixture_limits, a.refusal.number, a.vma_lower, a.vma_upper, a.voids_lower, a.voids_upper,
        a.density_lower, a.density_upper)
 
 CALL(mean, struct tulpavice_mean)
 {
     return who->mean(inputs->lots[i].readings, inputs->lots[i].count);
 }
-LOOP(mean, struct tulpavice_mean, a.refusal + (uint32_t)a.total + a.count)
-ANSWER(mean, struct tulpavice_mean, a.refusal, a.total, a.count)
+LOOP(mean, struct tulpavice_mean, a.refusal.number + (uint32_t)a.total + a.count)
+ANSWER(mean, struct tulpavice_mean, a.refusal.number, a.total, a.count)
 
 CALL(deviation, struct tulpavice_deviation)
 {
     return who->deviation(inputs->lots[i].readings, inputs->lots[i].count);
 }
-LOOP(deviation, struct tulpavice_deviation, a.refusal + (uint32_t)a.deviation)
-ANSWER(deviation, struct tulpavice_deviation, a.refusal, a.deviation)
+LOOP(deviation, struct tulpavice_deviation, a.refusal.number + (uint32_t)a.deviation)
+ANSWER(deviation, struct tulpavice_deviation, a.refusal.number, a.deviation)
 
 static void show_lot(const struct inputs *inputs, size_t i)
 {

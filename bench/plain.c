@@ -81,14 +81,14 @@ struct tulpavice_percentages plain_evaluate(const int32_t *readings, size_t coun
 {
     struct tulpavice_percentages answer = {0};
     struct totals a;
-    answer.refusal = total(readings, count, &a);
-    if (answer.refusal == 4)
+    answer.refusal.number = total(readings, count, &a);
+    if (answer.refusal.number == 4)
         return answer;
     if ((upper_present && out_of_range(upper)) || (lower_present && out_of_range(lower)))
-        answer.refusal = 5;
-    if (answer.refusal == 0)
-        answer.refusal = limits_refused(upper, upper_present, lower, lower_present);
-    if (answer.refusal != 0)
+        answer.refusal.number = 5;
+    if (answer.refusal.number == 0)
+        answer.refusal.number = limits_refused(upper, upper_present, lower, lower_present);
+    if (answer.refusal.number != 0)
         return answer;
     answer.upper = upper_present ? side(&a, a.n * upper - a.t) : WHOLE;
     answer.lower = lower_present ? side(&a, a.t - a.n * lower) : WHOLE;
@@ -105,8 +105,8 @@ struct tulpavice_mean plain_mean(const int32_t *readings, size_t count)
 {
     struct tulpavice_mean answer = {0};
     struct totals a;
-    answer.refusal = total(readings, count, &a);
-    if (answer.refusal == 0) {
+    answer.refusal.number = total(readings, count, &a);
+    if (answer.refusal.number == 0) {
         answer.total = (int32_t)a.t;
         answer.count = (uint32_t)a.n;
     }
@@ -118,8 +118,8 @@ struct tulpavice_deviation plain_deviation(const int32_t *readings, size_t count
 {
     struct tulpavice_deviation answer = {0};
     struct totals a;
-    answer.refusal = total(readings, count, &a);
-    if (answer.refusal == 0) {
+    answer.refusal.number = total(readings, count, &a);
+    if (answer.refusal.number == 0) {
         int64_t pairs = a.n * (a.n - 1), s = 0;
         while ((2 * s + 1) * (2 * s + 1) * pairs <= 4 * a.v)
             s++;
@@ -133,7 +133,7 @@ struct tulpavice_payment plain_pay(int64_t vma, int64_t voids, int64_t density, 
     struct tulpavice_payment answer = {0};
     if (outside(vma, WHOLE) || outside(voids, WHOLE) || outside(density, WHOLE) || outside(price, 10000000) ||
         outside(quantity, 100000000)) {
-        answer.refusal = 9;
+        answer.refusal.number = 9;
         return answer;
     }
     int64_t weighted = 3 * (10600 + vma) + 3 * (10600 + voids) + 4 * (10600 + density);
@@ -152,9 +152,9 @@ struct tulpavice_mixture_limits plain_mixture(int64_t mixture, int32_t minimum, 
     struct tulpavice_mixture_limits answer = {0};
     if (minimum < -FARTHEST + 700 || minimum > FARTHEST - 3000 || target < -FARTHEST + 1350 ||
         target > FARTHEST - 1350) {
-        answer.refusal = 5;
+        answer.refusal.number = 5;
     } else if (outside(mixture, 3)) {
-        answer.refusal = 9;
+        answer.refusal.number = 9;
     } else {
         answer.vma_lower = minimum - 700;
         answer.vma_upper = minimum + 3000;
@@ -222,7 +222,7 @@ struct tulpavice_read plain_read(const uint8_t *bytes, size_t size)
     if (refusal == 0)
         refusal = take_lot(bytes, &answer.lot);
     if (refusal != 0)
-        return (struct tulpavice_read){.refusal = refusal};
+        return (struct tulpavice_read){.refusal.number = refusal};
     return answer;
 }
 
@@ -243,10 +243,10 @@ struct tulpavice_written plain_write(struct tulpavice_lot lot, uint8_t *out, siz
 {
     struct tulpavice_written answer = {0};
     size_t size = HEAD + 4 * (size_t)lot.count;
-    answer.refusal = lot_refused(&lot);
-    if (answer.refusal == 0 && room < size)
-        answer.refusal = 8;
-    if (answer.refusal != 0)
+    answer.refusal.number = lot_refused(&lot);
+    if (answer.refusal.number == 0 && room < size)
+        answer.refusal.number = 8;
+    if (answer.refusal.number != 0)
         return answer;
     bool has_upper = lot.upper_present, has_lower = lot.lower_present;
     out[0] = 0;

@@ -190,7 +190,7 @@ static void print_double(double value)
 
 static void print_percentages(struct tulpavice_percentages answer)
 {
-    print(answer.refusal);
+    print(answer.refusal.number);
     print(answer.upper);
     print(answer.lower);
     print(answer.pwl);
@@ -198,7 +198,7 @@ static void print_percentages(struct tulpavice_percentages answer)
 
 static void print_read(struct tulpavice_read answer)
 {
-    print(answer.refusal);
+    print(answer.refusal.number);
     print(answer.lot.upper);
     print(answer.lot.upper_present);
     print(answer.lot.lower);
@@ -215,11 +215,11 @@ static void answer_lot(void)
     const uint8_t *bytes;
     const int32_t *numbers = readings(&count, &bytes);
     struct tulpavice_mean mean = tulpavice_mean(numbers, count);
-    print(mean.refusal);
+    print(mean.refusal.number);
     print(mean.total);
     print(mean.count);
     print_percentages(tulpavice_evaluate(numbers, count, l.upper, l.upper_present, l.lower, l.lower_present));
-    print(tulpavice_row_refusal(bytes, 4 * count, l.upper, l.upper_present, l.lower, l.lower_present));
+    print(tulpavice_row_refusal(bytes, 4 * count, l.upper, l.upper_present, l.lower, l.lower_present).number);
     print_double(tulpavice_row_mean(bytes, 4 * count, l.upper, l.upper_present, l.lower, l.lower_present));
     print_double(tulpavice_row_pwl(bytes, 4 * count, l.upper, l.upper_present, l.lower, l.lower_present));
 }
@@ -231,7 +231,7 @@ static void answer_deviation(void)
     const uint8_t *bytes;
     const int32_t *numbers = readings(&count, &bytes);
     struct tulpavice_deviation answer = tulpavice_deviation(numbers, count);
-    print(answer.refusal);
+    print(answer.refusal.number);
     print(answer.deviation);
     print_double(tulpavice_row_deviation(bytes, 4 * count, l.upper, l.upper_present, l.lower, l.lower_present));
 }
@@ -241,7 +241,7 @@ static void answer_bytes(void)
     struct tulpavice_lot l = limits();
     size_t size;
     const uint8_t *bytes = hex(&size);
-    print(tulpavice_row_refusal(bytes, size, l.upper, l.upper_present, l.lower, l.lower_present));
+    print(tulpavice_row_refusal(bytes, size, l.upper, l.upper_present, l.lower, l.lower_present).number);
     print_double(tulpavice_row_mean(bytes, size, l.upper, l.upper_present, l.lower, l.lower_present));
     print_double(tulpavice_row_deviation(bytes, size, l.upper, l.upper_present, l.lower, l.lower_present));
     print_double(tulpavice_row_pwl(bytes, size, l.upper, l.upper_present, l.lower, l.lower_present));
@@ -258,7 +258,7 @@ static void answer_pay(void)
     for (int i = 0; i < 5; i++)
         given[i] = number_i64();
     struct tulpavice_payment answer = tulpavice_pay(given[0], given[1], given[2], given[3], given[4]);
-    print(answer.refusal);
+    print(answer.refusal.number);
     print(answer.composite);
     print(answer.vma);
     print(answer.voids);
@@ -273,7 +273,7 @@ static void answer_mixture(void)
     int32_t minimum = number_i32();
     int32_t target = number_i32();
     struct tulpavice_mixture_limits answer = tulpavice_mixture(mixture, minimum, target);
-    print(answer.refusal);
+    print(answer.refusal.number);
     print(answer.vma_lower);
     print(answer.vma_upper);
     print(answer.voids_lower);
@@ -291,10 +291,10 @@ static void answer_read(void)
     const uint8_t *bytes = hex(&size);
     struct tulpavice_read answer = tulpavice_read(bytes, size);
     print_read(answer);
-    if (answer.refusal == 0) {
+    if (answer.refusal.number == 0) {
         uint8_t again[64] = {0};
         struct tulpavice_written written = tulpavice_write(answer.lot, again, sizeof again);
-        print(written.refusal);
+        print(written.refusal.number);
         print((int64_t)written.size);
         print_bytes(again, at_most(written.size, sizeof again));
     }
@@ -308,10 +308,10 @@ static void answer_write(void)
     for (size_t i = 0; i < GUARD + room + GUARD; i++)
         memory[i] = (uint8_t)(171 + 37 * i);
     struct tulpavice_written answer = tulpavice_write(lot, room ? memory + GUARD : NULL, room);
-    print(answer.refusal);
+    print(answer.refusal.number);
     print((int64_t)answer.size);
     print_bytes(memory, GUARD + room + GUARD);
-    if (answer.refusal == 0)
+    if (answer.refusal.number == 0)
         print_read(tulpavice_read(memory + GUARD, at_most(answer.size, room)));
 }
 

@@ -51,7 +51,7 @@ static struct row row_of(const struct lot *l)
     for (size_t i = 0; i < l->count; i++)
         for (int shift = 24; shift >= 0; shift -= 8)
             bytes[size++] = (uint8_t)((uint32_t)l->readings[i] >> shift);
-    row.refusal = tulpavice_row_refusal(bytes, size, l->upper, l->upper_present, l->lower, l->lower_present);
+    row.refusal = tulpavice_row_refusal(bytes, size, l->upper, l->upper_present, l->lower, l->lower_present).number;
     row.mean = tulpavice_row_mean(bytes, size, l->upper, l->upper_present, l->lower, l->lower_present);
     row.deviation = tulpavice_row_deviation(bytes, size, l->upper, l->upper_present, l->lower, l->lower_present);
     row.pwl = tulpavice_row_pwl(bytes, size, l->upper, l->upper_present, l->lower, l->lower_present);

@@ -17,8 +17,8 @@
      9  in pay: a number below 0, a PWL above 10,000, a price above 10,000,000 or a quantity above 100,000,000;
         in the mixture lookup: a mixture number not 0 to 3
 
-   The lowest that applies is given, of those that the entry can meet. Each answer has the refusal's number first, 0 for
-   none; of what is refused every other number is 0.
+   The lowest that applies is given, of those that the entry can meet. Each answer begins with the refusal, whose number
+   is 0 for none; of what is refused every other number is 0.
 
    A limit is a number and a presence: 0 is absent, and its number is then not read; any other is present.
    Lent memory is a pointer and how many items it points to. NULL will do where there are none. */
@@ -35,6 +35,11 @@ extern "C" {
 /* The most readings that a lot can hold. */
 #define TULPAVICE_MOST 10
 
+/* Why there is no answer: the number above, or 0 where there is one. */
+struct tulpavice_refusal {
+    uint32_t number;
+};
+
 /* A lot: its limits, how many readings it has, and those readings from the first place on. What stands in the places
    after them is not read. */
 struct tulpavice_lot {
@@ -48,19 +53,19 @@ struct tulpavice_lot {
 
 /* The mean, unrounded: the sum of the readings, in thousandths, and their count. */
 struct tulpavice_mean {
-    uint32_t refusal;
+    struct tulpavice_refusal refusal;
     int32_t total;
     uint32_t count;
 };
 
 struct tulpavice_deviation {
-    uint32_t refusal;
+    struct tulpavice_refusal refusal;
     int32_t deviation;
 };
 
 /* The percentage of each side, and percent within limits. */
 struct tulpavice_percentages {
-    uint32_t refusal;
+    struct tulpavice_refusal refusal;
     int64_t upper;
     int64_t lower;
     int64_t pwl;
@@ -68,7 +73,7 @@ struct tulpavice_percentages {
 
 /* The composite, the verdict on each characteristic and on the lot (0 accepted, 1 rejected), and what is paid. */
 struct tulpavice_payment {
-    uint32_t refusal;
+    struct tulpavice_refusal refusal;
     int64_t composite;
     uint32_t vma;
     uint32_t voids;
@@ -78,7 +83,7 @@ struct tulpavice_payment {
 };
 
 struct tulpavice_mixture_limits {
-    uint32_t refusal;
+    struct tulpavice_refusal refusal;
     int32_t vma_lower;
     int32_t vma_upper;
     int32_t voids_lower;
@@ -89,13 +94,13 @@ struct tulpavice_mixture_limits {
 
 /* A lot that was read. A limit's presence is 0 or 1; an absent limit's number, and the places after the readings, are 0. */
 struct tulpavice_read {
-    uint32_t refusal;
+    struct tulpavice_refusal refusal;
     struct tulpavice_lot lot;
 };
 
 /* How many bytes were written. */
 struct tulpavice_written {
-    uint32_t refusal;
+    struct tulpavice_refusal refusal;
     size_t size;
 };
 
@@ -131,8 +136,8 @@ struct tulpavice_written tulpavice_write(struct tulpavice_lot lot, uint8_t *out,
    refusal, 4 to 7 or 0 for none, and each double are asked for by calls of their own; of a refused lot each double is 0.
    The mean and the deviation are in the readings' own units, thousandths over 1000, and PWL is in percent; each is one
    division of exact doubles. */
-uint32_t tulpavice_row_refusal(const uint8_t *readings, size_t size, int32_t upper, uint32_t upper_present,
-                               int32_t lower, uint32_t lower_present);
+struct tulpavice_refusal tulpavice_row_refusal(const uint8_t *readings, size_t size, int32_t upper,
+                                               uint32_t upper_present, int32_t lower, uint32_t lower_present);
 double tulpavice_row_mean(const uint8_t *readings, size_t size, int32_t upper, uint32_t upper_present, int32_t lower,
                           uint32_t lower_present);
 double tulpavice_row_deviation(const uint8_t *readings, size_t size, int32_t upper, uint32_t upper_present,

@@ -1,6 +1,6 @@
 // Every entry, for a host in C: include/tulpavice.h declares them. Thin: what is worked out is worked out below.
 use host::limit;
-use hostlot::held_lot;
+use host::lot::held_lot;
 use rules::Cents;
 use rules::HundredthTons;
 use rules::Hundredths;
@@ -12,12 +12,13 @@ use rules::host::HostMixtureLimits;
 use rules::host::HostPayment;
 use rules::host::HostPercentages;
 use rules::host::HostRead;
+use rules::host::HostRefusal;
 use rules::host::HostWritten;
 ghost use mathlib.Core.Path.{_≡_};
 ghost use Rattle.rules.specs.Lot.{lot-of, lot-in};
-ghost use Rattle.rules.specs.Notebook.{lent-limit, refusal-asked, mean-asked, deviation-asked, pwl-asked};
+ghost use Rattle.rules.specs.Notebook.{lent-limit, mean-asked, deviation-asked, pwl-asked};
 ghost use Rattle.rules.specs.Entries.{mean-says, deviation-says, evaluation-says, read-leaves, write-says, after-write, pay-says, mixture-says, row-says};
-ghost use Rattle.rules.specs.Host.{host-mean, host-deviation, host-percentages, host-payment, host-mixture-limits, held-lot, host-read, host-written};
+ghost use Rattle.rules.specs.Host.{host-refusal, host-mean, host-deviation, host-percentages, host-payment, host-mixture-limits, held-lot, host-read, host-written};
 
 #[no_mangle]
 pub extern "C" fn tulpavice_mean(readings: &[i32]) -> HostMean
@@ -85,7 +86,7 @@ pub extern "C" fn tulpavice_mixture(mixture: i64, minimum: i32, target: i32) -> 
 pub extern "C" fn tulpavice_read(bytes: &[u8]) -> HostRead
     ensures { λ r. ⌜ r ≡ host-read (read-leaves (now (bytes .entry))) ⌝ }
 {
-    hostlot::read(record::read(bytes))
+    host::lot::read(record::read(bytes))
 }
 
 #[no_mangle]
@@ -102,8 +103,8 @@ pub extern "C" fn tulpavice_row_refusal(
     upper_present: u32,
     lower: i32,
     lower_present: u32,
-) -> u32
-    ensures { λ r. ⌜ r ≡ refusal-asked (row-says (lent-limit upper «upper_present») (lent-limit lower «lower_present») (now (readings .entry))) ⌝ }
+) -> HostRefusal
+    ensures { λ r. ⌜ r ≡ host-refusal (row-says (lent-limit upper «upper_present») (lent-limit lower «lower_present») (now (readings .entry))) ⌝ }
 {
     let above = limit(upper, upper_present);
     let below = limit(lower, lower_present);

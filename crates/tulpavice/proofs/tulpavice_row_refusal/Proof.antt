@@ -2,8 +2,9 @@
 use mathlib.Core.Path.{_≡_, _∙_}
 use borrow.Author.Needs.{needs}
 use mir.Facts.{toZ-ofZ}
-use Rattle.rules.specs.Notebook.{lent-limit, refusal-asked}
+use Rattle.rules.specs.Notebook.{lent-limit}
 use Rattle.rules.specs.Entries.{row-says}
+use Rattle.rules.specs.Host.{host-refusal}
 use Rattle.tulpavice.proofs.tulpavice_row_refusal.Statement.{statement}
 use Rattle.tulpavice.proofs.tulpavice_row_refusal.Tie as tie
 
@@ -23,7 +24,7 @@ returns c =
     let g = start .fits .lower in
     let upper : c .before .before .limit .result ≡ lent-limit (start .args .upper) (start .args .upper-present) = simp toZ-ofZ at (c .before .before .limit .ensures) in
     let lower : c .before .limit2 .result ≡ lent-limit (start .args .lower) (start .args .lower-present) = simp toZ-ofZ at (c .before .limit2 .ensures) in
-    c .refusal .ensures ∙ (λ i. refusal-asked (row-says (upper i) (lower i) (start .args .readings .now)))
+    c .refusal .ensures ∙ (λ i. host-refusal (row-says (upper i) (lower i) (start .args .readings .now)))
 
 pub tulpavice-row-refusal-spec : {M : Type 1} → statement M
 tulpavice-row-refusal-spec =

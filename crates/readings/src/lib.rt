@@ -1,6 +1,6 @@
 // Mean and deviation of a lent list of readings, in thousandths, and the totals that they and the lookups are worked out from.
 use refusals::allowed;
-use refusals::in_range;
+use refusals::near;
 use rules::DeviationAnswer;
 use rules::Mean;
 use rules::MeanAnswer;
@@ -46,7 +46,7 @@ pub fn pass(a: Totals, x: i32) -> TotalsAnswer
     requires { ⌜ (natAbs (a .t) ≤ most * 500000) × (natAbs (a .z) ≤ most * 250000000000) ⌝ }
     ensures { λ r. ⌜ totals-said r ≡ pass-says a x ⌝ }
 {
-    if in_range(x as i64) {
+    if near(x) {
         TotalsAnswer::Answers(step(a, x as i64))
     } else {
         TotalsAnswer::Refused(Refusal::Range)

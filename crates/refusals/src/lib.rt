@@ -29,12 +29,19 @@ pub fn in_range(z: i64) -> bool
     (-500000 <= z) & (z <= 500000)
 }
 
+// The same of 32 bits, which is all that a reading and a limit have.
+pub fn near(z: i32) -> bool
+    ensures { λ r. ⌜ r ≡ in-range z ⌝ }
+{
+    (-500000 <= z) & (z <= 500000)
+}
+
 fn out_of_range(limit: Limit) -> bool
     ensures { λ r. ⌜ r ≡ out-of-range limit ⌝ }
 {
     match limit {
         Limit::Absent => false,
-        Limit::At(z) => !in_range(z.0 as i64),
+        Limit::At(z) => !near(z.0),
     }
 }
 

@@ -1,15 +1,7 @@
 // Table 106-1 of document 004, as printed, a column at a time; and an entry of any column.
 mod columns;
 
-use columns::N_2;
-use columns::N_3;
-use columns::N_4;
-use columns::N_5;
-use columns::N_6;
-use columns::N_7;
-use columns::N_8;
-use columns::N_9;
-use columns::N_10;
+use columns::COLUMNS;
 use rules::Hundredths;
 ghost use mathlib.Core.Path.{_≡_};
 ghost use Prim.Native.Nat.{_≤_};
@@ -24,17 +16,7 @@ pub fn column(n: usize) -> [u8; 108]
     requires { ⌜ (2 ≤ n) × (n ≤ 10) ⌝ }
     ensures { λ r. ⌜ column-in r ≡ entries (table-106-1 n) ⌝ }
 {
-    match n {
-        2 => N_2,
-        3 => N_3,
-        4 => N_4,
-        5 => N_5,
-        6 => N_6,
-        7 => N_7,
-        8 => N_8,
-        9 => N_9,
-        _ => N_10,
-    }
+    COLUMNS[n - 2]
 }
 
 fn two(high: u8, low: u8) -> u16

@@ -20,11 +20,8 @@ widened : (c : tie.Start) → SFits w64 (c .args .x)
 widened c = sfits-widen tt (c .fits .x)
 
 -- What the test says of it.
-tested : (c : tie.After-in-range) → c .in-range .result ≡ in-range (c .before .args .x)
-tested c =
-    let f = c .before .fits .x in
-    let g = widened (c .before) in
-    simp toZ-ofZ at (c .in-range .ensures)
+tested : (c : tie.After-near) → c .near .result ≡ in-range (c .before .args .x)
+tested c = let f = c .before .fits .x in simp toZ-ofZ at (c .near .ensures)
 
 taken : (a b : Totals) (x : ℤ) → in-range x ≡ true → (b .n ≡ a .n) × (b .t ≡ x +ℤ a .t) × (b .z ≡ x *ℤ x +ℤ a .z) → answers b ≡ pass-says a x
 unfolding pass-says
@@ -34,11 +31,8 @@ left-out : (a : Totals) (x : ℤ) → in-range x ≡ false → refused Range ≡
 unfolding pass-says
 left-out a x e = rw e
 
-cast-in-range : tie.Need-cast-in-range
-cast-in-range c = let f = c .fits .x in simp toZ-ofZ (widened c)
-
-in-range-requires : tie.Need-in-range-requires
-in-range-requires c κs = search needs
+near-requires : tie.Need-near-requires
+near-requires c κs = search needs
 
 cast-step : tie.Need-cast-step
 cast-step c = let f = c .before .before .fits .x in simp toZ-ofZ (widened (c .before .before))
@@ -62,4 +56,4 @@ returns-2 c = left-out (c .before .before .args .a) (c .before .before .args .x)
 
 pub pass-spec : {M : Type 1} → statement M
 pass-spec =
-    tie.close (tie.spec cast-in-range in-range-requires cast-step step-requires returns returns-2)
+    tie.close (tie.spec near-requires cast-step step-requires returns returns-2)

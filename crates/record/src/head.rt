@@ -68,7 +68,13 @@ fn wrong_flags(bytes: &[u8]) -> bool
     ensures { λ r. ⌜ r ≡ flags-case (now (bytes .entry)) .applies ⌝ }
 {
     let flags = bytes[3];
-    !(flags / 4 == 0) | stray(flags % 2 == 1, bytes, 4) | stray(flags / 2 % 2 == 1, bytes, 8)
+    if !(flags / 4 == 0) {
+        true
+    } else if stray(flags % 2 == 1, bytes, 4) {
+        true
+    } else {
+        stray(flags / 2 % 2 == 1, bytes, 8)
+    }
 }
 
 // 4: n not 2 to 10, or the length isn't 11 + 4n.

@@ -11,7 +11,7 @@ ghost use mathlib.Core.Path.{_≡_};
 ghost use mathlib.Core.Bool.{_||_};
 ghost use Rattle.rules.specs.Units.{in-range};
 ghost use Rattle.rules.specs.Said.{checked};
-ghost use Rattle.rules.specs.Refusals.{allowed, out-of-range, none, crossed, outside, pay-case};
+ghost use Rattle.rules.specs.Refusals.{allowed, out-of-range, outside, pay-case};
 ghost use Rattle.rules.specs.Meets.{limits-meet, pay-meets};
 ghost use Rattle.rules.specs.Answers.{outcome-said};
 
@@ -45,47 +45,36 @@ fn out_of_range(limit: Limit) -> bool
     }
 }
 
-fn none(upper: Limit, lower: Limit) -> bool
-    ensures { λ r. ⌜ r ≡ none upper lower ⌝ }
-{
-    match upper {
-        Limit::Absent => match lower {
-            Limit::Absent => true,
-            Limit::At(_) => false,
-        },
-        Limit::At(_) => false,
-    }
-}
-
-fn crossed(upper: Limit, lower: Limit) -> bool
-    ensures { λ r. ⌜ r ≡ crossed upper lower ⌝ }
-{
-    match upper {
-        Limit::Absent => false,
-        Limit::At(u) => match lower {
-            Limit::Absent => false,
-            Limit::At(l) => u.0 < l.0,
-        },
-    }
-}
-
 // 5, of limits: a present one out of range.
 pub fn limits_out(upper: Limit, lower: Limit) -> bool
     ensures { λ r. ⌜ r ≡ (out-of-range upper || out-of-range lower) ⌝ }
 {
-    out_of_range(upper) | out_of_range(lower)
+    if out_of_range(upper) {
+        true
+    } else {
+        out_of_range(lower)
+    }
 }
 
 // What limits in range can meet: 6 and 7.
 pub fn limits(upper: Limit, lower: Limit) -> Outcome
     ensures { λ r. ⌜ outcome-said r ≡ checked (limits-meet upper lower) ⌝ }
 {
-    if none(upper, lower) {
-        Outcome::Refused(Refusal::Unlimited)
-    } else if crossed(upper, lower) {
-        Outcome::Refused(Refusal::Crossed)
-    } else {
-        Outcome::Answers
+    match upper {
+        Limit::Absent => match lower {
+            Limit::Absent => Outcome::Refused(Refusal::Unlimited),
+            Limit::At(_) => Outcome::Answers,
+        },
+        Limit::At(u) => match lower {
+            Limit::Absent => Outcome::Answers,
+            Limit::At(l) => {
+                if u.0 < l.0 {
+                    Outcome::Refused(Refusal::Crossed)
+                } else {
+                    Outcome::Answers
+                }
+            }
+        },
     }
 }
 

@@ -1,5 +1,6 @@
 // The nine columns of Table 106-1, n = 2 to 10, in hundredths: 54 rows each, from index 0.00 to 2.65, and two bytes to a row, the higher first.
-pub const COLUMNS: [[u8; 108]; 9] = [
+// They stand in three constants, since a constant is laid out anew wherever it is used.
+pub const FROM_2: [[u8; 108]; 3] = [
     [
         19,
         136,
@@ -330,6 +331,9 @@ pub const COLUMNS: [[u8; 108]; 9] = [
         39,
         16,
     ],
+];
+
+pub const FROM_5: [[u8; 108]; 3] = [
     [
         19,
         136,
@@ -660,6 +664,9 @@ pub const COLUMNS: [[u8; 108]; 9] = [
         39,
         16,
     ],
+];
+
+pub const FROM_8: [[u8; 108]; 3] = [
     [
         19,
         136,

@@ -1,7 +1,9 @@
 // Table 106-1 of document 004, as printed, a column at a time; and an entry of any column.
 mod columns;
 
-use columns::COLUMNS;
+use columns::FROM_2;
+use columns::FROM_5;
+use columns::FROM_8;
 use rules::Hundredths;
 ghost use mathlib.Core.Path.{_≡_};
 ghost use Prim.Native.Nat.{_≤_};
@@ -16,7 +18,13 @@ pub fn column(n: usize) -> [u8; 108]
     requires { ⌜ (2 ≤ n) × (n ≤ 10) ⌝ }
     ensures { λ r. ⌜ column-in r ≡ entries (table-106-1 n) ⌝ }
 {
-    COLUMNS[n - 2]
+    if n < 5 {
+        FROM_2[n - 2]
+    } else if n < 8 {
+        FROM_5[n - 5]
+    } else {
+        FROM_8[n - 8]
+    }
 }
 
 fn two(high: u8, low: u8) -> u16

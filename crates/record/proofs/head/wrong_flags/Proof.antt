@@ -1,4 +1,5 @@
--- The flags as they stand, and the bytes of the two limits.
+-- The flags as they stand, and then the bytes of the two limits.
+use mathlib.Core.Path.{sym, _∙_}
 use borrow.Author.Needs.{needs}
 use Rattle.record.proofs.head.wrong_flags.Statement.{statement}
 use Rattle.record.proofs.head.wrong_flags.Tie as tie
@@ -13,8 +14,15 @@ stray-requires-2 : tie.Need-stray-requires-2
 stray-requires-2 c κs = search needs
 
 returns : tie.Need-returns
-returns c = simp (c .before .stray .ensures, c .stray2 .ensures)
+returns c = simp (c .if1 .taken)
+
+returns-2 : tie.Need-returns-2
+returns-2 c = simp (c .before .before .if1 .left, sym (c .before .stray .ensures) ∙ c .if2 .taken)
+
+returns-3 : tie.Need-returns-3
+returns-3 c = simp (c .before .before .before .if1 .left, sym (c .before .before .stray .ensures) ∙ c .before .if2 .left, c .stray2 .ensures)
 
 pub wrong-flags-spec : {M : Type 1} → statement M
 wrong-flags-spec =
-    tie.close (tie.spec shared-slice-read-flags stray-requires stray-requires-2 returns)
+    tie.close
+    (tie.spec shared-slice-read-flags stray-requires stray-requires-2 returns returns-2 returns-3)

@@ -1,5 +1,6 @@
 // The nine columns of Table 106-1, n = 2 to 10, in hundredths: 54 rows each, from index 0.00 to 2.65, and two bytes to a row, the higher first.
-// They stand in three constants, since a constant is laid out anew wherever it is used.
+// A constant is laid out anew wherever it is used, so they stand in three, of which one is used; and in three of different lengths, since those
+// of one length are taken for one that is filled byte by byte.
 pub const FROM_2: [[u8; 108]; 3] = [
     [
         19,
@@ -333,7 +334,7 @@ pub const FROM_2: [[u8; 108]; 3] = [
     ],
 ];
 
-pub const FROM_5: [[u8; 108]; 3] = [
+pub const FROM_5: [[u8; 108]; 4] = [
     [
         19,
         136,
@@ -664,9 +665,6 @@ pub const FROM_5: [[u8; 108]; 3] = [
         39,
         16,
     ],
-];
-
-pub const FROM_8: [[u8; 108]; 3] = [
     [
         19,
         136,
@@ -777,6 +775,9 @@ pub const FROM_8: [[u8; 108]; 3] = [
         39,
         16,
     ],
+];
+
+pub const FROM_9: [[u8; 108]; 2] = [
     [
         19,
         136,

@@ -3,7 +3,7 @@ mod columns;
 
 use columns::FROM_2;
 use columns::FROM_5;
-use columns::FROM_8;
+use columns::FROM_9;
 use rules::Hundredths;
 ghost use mathlib.Core.Path.{_≡_};
 ghost use Prim.Native.Nat.{_≤_};
@@ -20,10 +20,10 @@ pub fn column(n: usize) -> [u8; 108]
 {
     if n < 5 {
         FROM_2[n - 2]
-    } else if n < 8 {
+    } else if n < 9 {
         FROM_5[n - 5]
     } else {
-        FROM_8[n - 8]
+        FROM_9[n - 9]
     }
 }
 

@@ -1,4 +1,4 @@
-// Prints Table 106-1 as the crate `table` has it, through its one entry: tab-separated, in percent, a line for each index.
+// Prints Table 106-1 as the crate `table` has it, an entry at a time: tab-separated, in percent, a line for each index.
 use io::print_decimal;
 use libc::STDOUT_FILENO;
 ghost use Prim.Native.Nat.{_≤_};
@@ -22,7 +22,8 @@ fn cell(n: usize, k: usize)
     requires { ⌜ (2 ≤ n) × (n ≤ 10) × (k ≤ 53) ⌝ }
 {
     io::write_all(STDOUT_FILENO, b"\t");
-    let entry = table::entry(n, k);
+    let column = table::column(n);
+    let entry = table::entry(&column, k);
     show_signed(entry.0);
 }
 

@@ -32,9 +32,8 @@ pub const UNREFUSED: HostRefusal = HostRefusal { number: 0 };
 pub fn refused(refusal: Refusal) -> HostRefusal
     ensures { λ r. ⌜ r ≡ refusal-part refusal ⌝ }
 {
-    HostRefusal {
-        number: refusal.number(),
-    }
+    let number = refusal.number();
+    HostRefusal { number: number }
 }
 
 // Presence 0 is absent, and the number is then not read; any other is present.

@@ -30,10 +30,10 @@ pub fn in_range(z: i64) -> bool
 }
 
 // The same of 32 bits, which is all that a reading and a limit have.
-pub fn near(z: i32) -> bool
-    ensures { λ r. ⌜ r ≡ in-range z ⌝ }
+pub fn near(x: i32) -> bool
+    ensures { λ r. ⌜ r ≡ in-range x ⌝ }
 {
-    (-500000 <= z) & (z <= 500000)
+    (-500000 <= x) & (x <= 500000)
 }
 
 fn out_of_range(limit: Limit) -> bool

@@ -1,5 +1,5 @@
 -- What is said of n, T and Z on the way to an entry: the totals, or the refusal that is met before there are any.
-use mathlib.Core.Bool.{cond, not, _||_}
+use mathlib.Core.Bool.{cond, _||_}
 use mathlib.Core.List.{List, [], _∷_}
 use lib.IntN.{ℤ, _+ℤ_, _*ℤ_}
 use lib.ListN.{length}

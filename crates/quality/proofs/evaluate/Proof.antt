@@ -36,7 +36,9 @@ returns : tie.Need-returns
 returns c = sym (untotalled-is-refused _ (c .before .before .before .lent .ensures) (c .before .refusal .given .1))
 
 returns-2 : tie.Need-returns-2
-returns-2 c = ap answer (c .percentages .ensures) ∙ totalled-is-evaluated (totalled (c .before .before))
+returns-2 c =
+    let told = c .before .before in
+    ap answer (c .percentages .ensures) ∙ totalled-is-evaluated (totalled told)
 
 pub evaluate-spec : {M : Type 1} → statement M
 evaluate-spec =

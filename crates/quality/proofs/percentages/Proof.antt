@@ -1,9 +1,8 @@
 -- The column is Table 106-1's for the count, and the percentages are by it.
-use mathlib.Core.Path.{_≡_, ap, _∙_}
+use mathlib.Core.Path.{ap, _∙_}
 use mathlib.Core.List.{List}
 use Prim.Native.Nat.{ℕ}
 use borrow.Author.Needs.{needs}
-use lib.ListN.{length}
 use Rattle.rules.specs.Percent.{nearest}
 use Rattle.rules.specs.Entries.{percentages-of}
 use Rattle.laws.proofs.ColumnIn.{table-106-1-column-in}

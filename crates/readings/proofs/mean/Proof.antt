@@ -1,5 +1,5 @@
 -- A refusal is passed on; else T, which fits, is the sum of the readings.
-use mathlib.Core.Path.{_≡_, sym, ap, _∙_}
+use mathlib.Core.Path.{sym, ap, _∙_}
 use native.Mathlib.Omega.{arith}
 use borrow.Author.Needs.{needs}
 use mir.Syntax.{w32, w64}

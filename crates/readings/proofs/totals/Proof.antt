@@ -1,8 +1,7 @@
 -- The count first, then the walk.
 use mathlib.Core.Path.{sym, ap, _∙_}
-use mathlib.Core.Bool.{not, and-eq-true-iff}
+use mathlib.Core.Bool.{not}
 use borrow.Author.Needs.{needs}
-use borrow.Author.Tests.{leb-true}
 use Rattle.laws.specs.Totalled.{walk-says, totals-says}
 use Rattle.rules.specs.Meets.{readings-meet}
 use Rattle.laws.proofs.Ruled.{ruled-met, ruled-passed}

@@ -1,9 +1,5 @@
 -- By the number that the bytes spell, where the limit is absent.
-use mathlib.Core.Path.{ap}
-use mathlib.Core.Bool.{not}
-use Prim.Native.Nat.{ℕ}
 use borrow.Author.Needs.{needs}
-use lib.Dec.{eqb}
 use Rattle.record.proofs.head.stray.Statement.{statement}
 use Rattle.record.proofs.head.stray.Tie as tie
 

@@ -3,6 +3,8 @@ use mathlib.Core.Path.{_≡_, sym, _∙_}
 use mathlib.Core.List.{List}
 use Prim.Native.Nat.{ℕ}
 use lib.IntN.{ℤ}
+use Rattle.rules.specs.declared.Totals.{Totals}
+use Rattle.rules.specs.declared.TotalsAnswer.{TotalsAnswer}
 use Rattle.rules.specs.declared.Outcome.{Outcome}
 use Rattle.rules.specs.declared.MeanAnswer.{MeanAnswer}
 use Rattle.rules.specs.declared.DeviationAnswer.{DeviationAnswer}
@@ -13,14 +15,17 @@ use Rattle.rules.specs.declared.ReadAnswer.{ReadAnswer}
 use Rattle.rules.specs.declared.WriteAnswer.{WriteAnswer}
 use Rattle.rules.specs.declared.Limit.{Limit}
 use Rattle.rules.specs.declared.RowAnswer.{RowAnswer}
-use Rattle.rules.specs.Said.{Case, checked}
+use Rattle.rules.specs.Said.{Said, Case, checked}
 use Rattle.rules.specs.Lot.{Lot}
-use Rattle.rules.specs.Answers.{outcome-said, mean-said, deviation-said, evaluation-said, pay-said, mixture-said, read-said, write-said, row-said}
+use Rattle.rules.specs.Answers.{totals-said, outcome-said, mean-said, deviation-said, evaluation-said, pay-said, mixture-said, read-said, write-said, row-said}
 use Rattle.rules.specs.Entries.{mean-says, deviation-says, evaluation-says, pay-says, mixture-says, read-leaves, write-says, after-write, row-says}
-use Rattle.laws.proofs.Answers.{outcome-injective, mean-injective, deviation-injective, evaluation-injective, pay-injective, mixture-injective, read-injective, write-injective, row-injective}
+use Rattle.laws.proofs.Answers.{totals-injective, outcome-injective, mean-injective, deviation-injective, evaluation-injective, pay-injective, mixture-injective, read-injective, write-injective, row-injective}
 
 pub outcome-determined : (cases : List Case) (r q : Outcome) → outcome-said r ≡ checked cases → outcome-said q ≡ checked cases → r ≡ q
 outcome-determined cases r q e f = outcome-injective r q (e ∙ sym f)
+
+pub totals-determined : (said : Said Totals) (r q : TotalsAnswer) → totals-said r ≡ said → totals-said q ≡ said → r ≡ q
+totals-determined said r q e f = totals-injective r q (e ∙ sym f)
 
 pub mean-determined : (xs : List ℤ) (r q : MeanAnswer) → mean-said r ≡ mean-says xs → mean-said q ≡ mean-says xs → r ≡ q
 mean-determined xs r q e f = mean-injective r q (e ∙ sym f)

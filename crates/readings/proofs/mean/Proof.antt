@@ -51,7 +51,8 @@ returns-2 c =
     let b = total-bound (h .bounded) in
     let f : SFits w64 (at .a .given .0 .0 .t) = fits-of w64 (omega arith) in
     let g : SFits w32 (at .a .given .0 .0 .t) = fits-of w32 (omega arith) in
-    simp toZ-ofZ (ap mean-of (sym (h .same)) ∙ sym (ruled-unrefused _ _ (h .unrefused)))
+    simp toZ-ofZ
+    (ap mean-of (sym (h .same)) ∙ sym (ruled-unrefused _ _ (h .unrefused)))
 
 pub mean-spec : {M : Type 1} → statement M
 mean-spec =

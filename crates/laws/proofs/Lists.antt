@@ -1,5 +1,5 @@
 -- A list, as a loop fills it.
-use mathlib.Core.Path.{_≡_, sym, ap, ap₂, _∙_}
+use mathlib.Core.Path.{_≡_, sym, ap₂, _∙_}
 use mathlib.Core.List.{List, [], _∷_, _++_, map}
 use Prim.Native.Nat.{ℕ, suc, _<_}
 use lib.ListN.{length, length-map, List·getD-map, take, getD, set}

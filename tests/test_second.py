@@ -30,7 +30,7 @@ class Second(unittest.TestCase):
         *words, _ = running("target/host/answers")
         (ROOT / WRONG).mkdir(parents=True, exist_ok=True)
         library = (ROOT / "target/lib/libtulpavice.a").read_bytes()
-        old, new = struct.pack("<3H", 8766, 8876, 8979), struct.pack("<3H", 8766, 8875, 8979)
+        old, new = struct.pack(">3H", 8766, 8876, 8979), struct.pack(">3H", 8766, 8875, 8979)
         self.assertEqual(library.count(old), 1)
         (ROOT / WRONG / "libtulpavice.a").write_bytes(library.replace(old, new))
         make(f"HOST={WRONG}", f"LIBRARY={WRONG}/libtulpavice", f"{WRONG}/answers")

@@ -7,14 +7,12 @@ use rules::Thousandths;
 use rules::Totals;
 use rules::TotalsAnswer;
 ghost use mathlib.Core.Path.{_≡_};
-ghost use mathlib.Core.Bool.{false};
-ghost use Prim.Native.Nat.{_*_, _≤_};
+ghost use Prim.Native.Nat.{_+_, _*_, _≤_};
 ghost use lib.ListN.{length};
-ghost use Rattle.rules.specs.Lot.{most, in-places};
-ghost use Rattle.rules.specs.Record.{fours};
-ghost use Rattle.rules.specs.Refusals.{any-out};
+ghost use Rattle.rules.specs.Lot.{most};
+ghost use Rattle.rules.specs.Record.{four, fours, part};
 ghost use Rattle.rules.specs.Answers.{totals-said};
-ghost use Rattle.laws.specs.Totalled.{walk-says};
+ghost use Rattle.laws.specs.Totalled.{walk-says, Placed};
 
 // What is said of some readings, with their totals, and the readings in their places: of any use where none is out of range.
 pub struct Walked {
@@ -22,11 +20,19 @@ pub struct Walked {
     pub readings: [Thousandths; MOST],
 }
 
+// Reading i.
+fn reading(bytes: &[u8], i: usize) -> i32
+    requires { ⌜ 4 * i + 4 ≤ length (now bytes) ⌝ }
+    ensures { λ r. ⌜ r ≡ four (part (4 * i) 4 (now (bytes .entry))) ⌝ }
+{
+    signed(word(bytes, 4 * i))
+}
+
 // One pass over so many readings. Inner: a record's reader and the notebook's row ask for no more than a lot and the bytes hold.
 pub fn walk(bytes: &[u8], n: usize) -> Walked
     requires { ⌜ (n ≤ most) × (4 * n ≤ length (now bytes)) ⌝ }
     ensures { λ r. ⌜ totals-said (r .said) ≡ walk-says (fours n (now (bytes .entry))) ⌝ }
-    ensures { λ r. ⌜ (any-out (fours n (now (bytes .entry))) ≡ false → r .readings ≡ in-places n (fours n (now (bytes .entry)))) ⌝ }
+    ensures { λ r. ⌜ Placed n (fours n (now (bytes .entry))) (r .readings) ⌝ }
 {
     let mut a = Totals {
         n: n as u32,
@@ -36,7 +42,7 @@ pub fn walk(bytes: &[u8], n: usize) -> Walked
     let mut readings = [Thousandths(0); MOST];
     let mut i = 0;
     while i < n {
-        let x = signed(word(bytes, 4 * i));
+        let x = reading(bytes, i);
         match pass(a, x) {
             TotalsAnswer::Refused(refusal) => {
                 return Walked {

@@ -1,17 +1,18 @@
--- Readings that come as bytes, as a walk goes through them.
+-- Readings in bytes, as a loop reads and writes them.
 use mathlib.Core.Path.{_≡_, refl, sym, ap, _∙_}
-use mathlib.Core.List.{List, [], _∷_, _++_, map, map-append}
-use Prim.Native.Nat.{ℕ, zero, suc, _+_, _-_, _*_, _<_}
+use mathlib.Core.List.{List, [], _∷_, _++_, map, map-append, append-assoc}
+use Prim.Native.Nat.{ℕ, zero, suc, _+_, _-_, _*_, _≤_, _<_}
 use native.Mathlib.Nat.{add-comm, mul-suc, le-of-suc-le-suc}
+use native.Mathlib.Numerals.{add-one}
 use native.Mathlib.Omega.{arith}
 use lib.IntN.{ℤ, pos}
-use lib.ListN.{length-map, getD, drop, replicate, set}
-use lib.Seq.{drop-drop, set-at, append-snoc}
+use lib.ListN.{length, length-append, length-map, List·getD-map, getD, take, drop, replicate, set}
+use lib.Seq.{drop-drop, set-at, append-snoc, length-take-le, take-suc, take-at}
 use Rattle.rules.specs.declared.Thousandths.{Thousandths}
 use Rattle.rules.specs.Units.{thousandths}
-use Rattle.rules.specs.Lot.{most, in-places}
-use Rattle.rules.specs.Record.{four, fours, part}
-use Rattle.laws.proofs.Spelled.{length-fours, fours-suc}
+use Rattle.rules.specs.Lot.{most, plain, in-places}
+use Rattle.rules.specs.Record.{spell, four, fours, in-four, in-fours, part, head-size}
+use Rattle.laws.proofs.Spelled.{length-fours, fours-suc, in-fours-snoc}
 
 -- Reading k is what its four bytes spell.
 pub fours-at : (n : ℕ) (bs : List ℕ) (k : ℕ) → k < n → getD (fours n bs) k (pos 0) ≡ four (part (4 * k) 4 bs)
@@ -33,3 +34,21 @@ placed-suc i bs h =
     ∙ sym (append-snoc xs (thousandths x) (replicate (most - suc i) zero))
     ∙ ap (λ (rs : List Thousandths). rs ++ replicate (most - suc i) zero) (sym (map-append thousandths (fours i bs) (x ∷ [])) ∙ ap (map thousandths) (sym (fours-suc i bs)))
     ∙ ap (λ (k : ℕ). in-places k (fours k bs)) next
+
+-- One reading more is written after the others, which stand after the first bytes of a record.
+pub written-suc :
+    (rs : List Thousandths) (first ys : List ℕ) (i : ℕ) → i < length rs → head-size + 4 * i + 4 ≤ length ys →
+    take (head-size + 4 * i) ys ≡ first ++ in-fours (take i (plain rs)) →
+    take (head-size + 4 * (i + 1)) (take (head-size + 4 * i) ys ++ in-four (getD rs i (thousandths (pos 0)) .0) ++ drop (head-size + 4 * i + 4) ys) ≡ first ++ in-fours (take (i + 1) (plain rs))
+unfolding spell
+written-suc rs first ys i there room e =
+    let xs : List ℤ = plain rs in
+    let x : ℤ = getD rs i (thousandths (pos 0)) .0 in
+    let at : ℕ = head-size + 4 * i in
+    let also : i < length xs = rw (length-map rs (λ (r : Thousandths). r .0)) there in
+    let long : length (take at ys ++ in-four x) ≡ head-size + 4 * (i + 1) = omega (arith, length-append (take at ys) (in-four x), length-take-le at ys (omega arith)) in
+    let one-more : take (i + 1) xs ≡ take i xs ++ (x ∷ []) = rw (add-one i) (take-suc xs i (pos 0) also ∙ ap (λ (z : ℤ). take i xs ++ (z ∷ [])) (List·getD-map (λ (r : Thousandths). r .0) rs i (thousandths (pos 0)))) in
+    take-at (take at ys ++ in-four x) (drop (at + 4) ys) (head-size + 4 * (i + 1)) long
+    ∙ ap (λ (bs : List ℕ). bs ++ in-four x) e
+    ∙ append-assoc first (in-fours (take i xs)) (in-four x)
+    ∙ ap (λ (bs : List ℕ). first ++ bs) (sym (ap in-fours one-more ∙ in-fours-snoc (take i xs) x))

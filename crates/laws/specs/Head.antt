@@ -4,8 +4,10 @@ use mathlib.Core.Bool.{false}
 use mathlib.Core.List.{List}
 use Prim.Native.Nat.{ℕ, _+_, _*_, _≤_, _<_}
 use lib.ListN.{length}
-use Rattle.rules.specs.Lot.{most}
-use Rattle.rules.specs.Record.{spelled, length-field, version-field, flags-field, n-field, upper-field, lower-field, has-upper, has-lower, head-size, length-of}
+use Rattle.rules.specs.Said.{Said, ruled}
+use Rattle.rules.specs.Lot.{Lot, most}
+use Rattle.rules.specs.Record.{spelled, length-field, version-field, flags-field, n-field, upper-field, lower-field, has-upper, has-lower, head-size, lot-of-record, length-of}
+use Rattle.rules.specs.Meets.{lot-meets}
 
 pub record HeadAccepted (bs : List ℕ) : Type 0 where
   pub size : length bs ≡ head-size + 4 * n-field bs
@@ -16,3 +18,7 @@ pub record HeadAccepted (bs : List ℕ) : Type 0 where
   pub no-lower : has-lower bs ≡ false → spelled 0 (lower-field bs) ≡ 0
   pub least : 2 ≤ n-field bs
   pub few : n-field bs ≤ most
+
+-- and what is said of its lot
+abbrev pub lot-says : List ℕ → Said Lot
+lot-says bs = ruled (lot-meets (lot-of-record bs)) (lot-of-record bs)

@@ -1,28 +1,35 @@
 -- What is said of n, T and Z on the way to an entry: the totals, or the refusal that is met before there are any.
-use mathlib.Core.Bool.{cond, _||_}
+use mathlib.Core.Path.{_≡_}
+use mathlib.Core.Bool.{false, cond, _||_}
 use mathlib.Core.List.{List, [], _∷_}
+use Prim.Native.Nat.{ℕ}
 use lib.IntN.{ℤ, _+ℤ_, _*ℤ_}
 use lib.ListN.{length}
+use Rattle.rules.specs.declared.Thousandths.{Thousandths}
 use Rattle.rules.specs.declared.Limit.{Limit}
 use Rattle.rules.specs.declared.Limit.the-variants.{Absent}
 use Rattle.rules.specs.declared.Totals.{Totals}
 use Rattle.rules.specs.declared.Refusal.the-variants.{Range}
 use Rattle.rules.specs.Units.{in-range}
 use Rattle.rules.specs.Said.{Said, refused, answers, Case, ruled}
-use Rattle.rules.specs.Lot.{Lot}
+use Rattle.rules.specs.Lot.{Lot, in-places}
 use Rattle.rules.specs.Percent.{totals}
-use Rattle.rules.specs.Refusals.{out-of-range, range-case}
+use Rattle.rules.specs.Refusals.{out-of-range, any-out, range-case}
 use Rattle.rules.specs.Meets.{readings-meet, limits-meet}
 
 -- One reading more, which is in range or else 5.
 unfoldable pub pass-says : Totals → ℤ → Said Totals
 pass-says a x = cond (in-range x) (answers (record { n = a .n; t = x +ℤ a .t; z = x *ℤ x +ℤ a .z })) (refused Range)
 
--- All readings, of which none is out of range or else 5,
+-- All readings, of which none is out of range or else 5;
 unfoldable pub walk-says : List ℤ → Said Totals
 walk-says xs = ruled (range-case Absent Absent xs ∷ []) (totals (length xs) xs)
 
--- and which are as many as are allowed, or else 4.
+-- with the readings in their places, which are of use where none is out of range.
+abbrev pub Placed : ℕ → List ℤ → List Thousandths → Type 0
+Placed n xs places = any-out xs ≡ false → places ≡ in-places n xs
+
+-- All readings, which are as many as are allowed, or else 4.
 unfoldable pub totals-says : List ℤ → Said Totals
 totals-says xs = ruled (readings-meet xs) (totals (length xs) xs)
 

@@ -16,7 +16,7 @@ ghost use Rattle.rules.specs.Answers.{pay-said};
 ghost use Rattle.rules.specs.Entries.{pay-says};
 ghost use Rattle.laws.specs.Between.{Between};
 ghost use Rattle.laws.specs.InPercent.{InPercent};
-ghost use Rattle.laws.specs.Payable.{Percents, Payable};
+ghost use Rattle.laws.specs.Payable.{Percents, Priced, Payable};
 
 // Document 000's pay rule.
 pub struct PayRule;
@@ -66,7 +66,7 @@ impl PayRule {
 
     // (price × quantity × composite + 50,000)/100,000, whole part.
     fn final_pay(price: Cents, quantity: HundredthTons, composite: Composite) -> Cents
-        requires { ⌜ Between (pos 0) (pos 10000000) (price .0) × Between (pos 0) (pos 100000000) (quantity .0) × Between (pos 530) (pos 1030) (composite .0) ⌝ }
+        requires { ⌜ Priced (price .0) (quantity .0) (composite .0) ⌝ }
         ensures { λ r. ⌜ r .0 ≡ final-pay (price .0) (quantity .0) (composite .0) ⌝ }
     {
         Cents((price.0 * quantity.0 * composite.0 + 50000) / 100000)

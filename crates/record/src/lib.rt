@@ -19,15 +19,15 @@ use rules::Thousandths;
 use rules::TotalsAnswer;
 use rules::WriteAnswer;
 ghost use mathlib.Core.Path.{_≡_};
+ghost use mathlib.Core.List.{_++_};
 ghost use Prim.Native.Nat.{_+_, _*_, _≤_};
-ghost use lib.ListN.{take};
-ghost use Rattle.rules.specs.Said.{refused, ruled};
+ghost use lib.ListN.{length, take, drop};
+ghost use Rattle.rules.specs.Said.{refused};
 ghost use Rattle.rules.specs.Lot.{most, lot-in};
-ghost use Rattle.rules.specs.Record.{head-size, lot-of-record, record-of};
-ghost use Rattle.rules.specs.Meets.{lot-meets};
+ghost use Rattle.rules.specs.Record.{in-four, head-size, record-of};
 ghost use Rattle.rules.specs.Answers.{read-said, write-said};
 ghost use Rattle.rules.specs.Entries.{beside, read-leaves, write-says, after-write};
-ghost use Rattle.laws.specs.Head.{HeadAccepted};
+ghost use Rattle.laws.specs.Head.{HeadAccepted, lot-says};
 
 const LONGEST: usize = HEAD + 4 * MOST;
 
@@ -49,7 +49,7 @@ fn refused(refusal: Refusal) -> ReadAnswer
 // The lot of a record whose first 13 bytes are not refused.
 fn lot(bytes: &[u8]) -> ReadAnswer
     requires { ⌜ HeadAccepted (now bytes) ⌝ }
-    ensures { λ r. ⌜ read-said r ≡ beside (ruled (lot-meets (lot-of-record (now (bytes .entry)))) (lot-of-record (now (bytes .entry)))) ⌝ }
+    ensures { λ r. ⌜ read-said r ≡ beside (lot-says (now (bytes .entry))) ⌝ }
 {
     let n = bytes[12] as usize;
     let upper = upper(bytes);
@@ -81,6 +81,18 @@ pub fn read(bytes: &[u8]) -> ReadAnswer
     }
 }
 
+// A number's four bytes, from a place on.
+fn put(out: &mut [u8], at: usize, z: i32)
+    requires { ⌜ at + 4 ≤ length (now out) ⌝ }
+    ensures { λ r. ⌜ now (out .exit) ≡ take at (now (out .entry)) ++ in-four z ++ drop (at + 4) (now (out .entry)) ⌝ }
+{
+    let four = spell(unsigned(z));
+    out[at] = four[0];
+    out[at + 1] = four[1];
+    out[at + 2] = four[2];
+    out[at + 3] = four[3];
+}
+
 // The record of a lot that does not say it has more readings than places, in the first bytes of an array.
 fn record_of(lot: HeldLot) -> [u8; LONGEST]
     requires { ⌜ lot .count ≤ most ⌝ }
@@ -96,12 +108,7 @@ fn record_of(lot: HeldLot) -> [u8; LONGEST]
     let mut i = 0;
     while i < n {
         let reading = readings[i];
-        let four = spell(unsigned(reading.0));
-        let at = HEAD + 4 * i;
-        whole[at] = four[0];
-        whole[at + 1] = four[1];
-        whole[at + 2] = four[2];
-        whole[at + 3] = four[3];
+        put(&mut whole, HEAD + 4 * i, reading.0);
         i += 1;
     }
     whole
@@ -109,7 +116,8 @@ fn record_of(lot: HeldLot) -> [u8; LONGEST]
 
 // The record of a lot in memory, from the start of a lent slice; what lies past it stays.
 pub fn write(lot: HeldLot, out: &mut [u8]) -> WriteAnswer
-    ensures { λ r. ⌜ (write-said r ≡ write-says (lot-in lot) (now (out .entry))) × (now (out .exit) ≡ after-write (lot-in lot) (now (out .entry))) ⌝ }
+    ensures { λ r. ⌜ write-said r ≡ write-says (lot-in lot) (now (out .entry)) ⌝ }
+    ensures { λ r. ⌜ now (out .exit) ≡ after-write (lot-in lot) (now (out .entry)) ⌝ }
 {
     match lots::held(lot) {
         TotalsAnswer::Refused(refusal) => WriteAnswer::Refused(refusal),

@@ -1,8 +1,8 @@
 -- In the manner of document 01's notebook, for every other entry: what a host is given in plain numbers. The refusal stands first; of what is
 -- refused every other number is 0.
-use mathlib.Core.List.{[], _∷_, map}
+use mathlib.Core.List.{List, [], _∷_, map}
 use Prim.Native.Nat.{ℕ}
-use lib.IntN.{pos}
+use lib.IntN.{ℤ, pos}
 use lib.ListN.{getD}
 use Rattle.rules.specs.declared.Thousandths.{Thousandths}
 use Rattle.rules.specs.declared.Limit.{Limit}
@@ -14,6 +14,7 @@ use Rattle.rules.specs.declared.Verdict.{Verdict}
 use Rattle.rules.specs.declared.Verdict.the-variants.{Accepted, Rejected}
 use Rattle.rules.specs.declared.Payment.{Payment}
 use Rattle.rules.specs.declared.Limits.{Limits}
+use Rattle.rules.specs.declared.Row.{Row}
 use Rattle.rules.specs.declared.MixtureLimits.{MixtureLimits}
 use Rattle.rules.specs.declared.Refusal.{Refusal}
 use Rattle.rules.specs.declared.host.HostRefusal.{HostRefusal}
@@ -29,10 +30,11 @@ use Rattle.rules.specs.declared.host.HostRead.{HostRead}
 use Rattle.rules.specs.declared.host.HostWritten.{HostWritten}
 use Rattle.rules.specs.Units.{thousandths}
 use Rattle.rules.specs.Said.{Said, refused, answers}
-use Rattle.rules.specs.Lot.{places}
+use Rattle.rules.specs.Lot.{Lot, lot-of, places}
 use Rattle.rules.specs.Refusals.{number-of}
 use Rattle.rules.specs.Notebook.{lent-limit}
 use Rattle.rules.specs.Answers.{ReadSaid}
+use Rattle.rules.specs.Entries.{row-says}
 
 -- The part with which every answer begins: the refusal's number, 0 for none.
 abbrev pub refusal-part : Refusal → HostRefusal
@@ -85,6 +87,16 @@ host-mixture-limits (refused r) =
     record { refusal = refusal-part r; vma = none; voids = none; density = none }
 host-mixture-limits (answers l) =
     record { refusal = no-refusal; vma = host-pair (l .vma); voids = host-pair (l .voids); density = host-pair (l .density) }
+
+-- ---- readings with limits, as numbers and presences
+
+abbrev pub given-lot : ℤ → ℕ → ℤ → ℕ → List ℤ → Lot
+given-lot upper upper-presence lower lower-presence xs =
+    lot-of (lent-limit upper upper-presence) (lent-limit lower lower-presence) xs
+
+abbrev pub given-row : ℤ → ℕ → ℤ → ℕ → List ℕ → Said Row
+given-row upper upper-presence lower lower-presence bs =
+    row-says (lent-limit upper upper-presence) (lent-limit lower lower-presence) bs
 
 -- ---- a lot, both ways
 

@@ -15,10 +15,10 @@ use rules::host::HostRead;
 use rules::host::HostRefusal;
 use rules::host::HostWritten;
 ghost use mathlib.Core.Path.{_≡_};
-ghost use Rattle.rules.specs.Lot.{lot-of, lot-in};
-ghost use Rattle.rules.specs.Notebook.{lent-limit, mean-asked, deviation-asked, pwl-asked};
-ghost use Rattle.rules.specs.Entries.{mean-says, deviation-says, evaluation-says, read-leaves, write-says, after-write, pay-says, mixture-says, row-says};
-ghost use Rattle.rules.specs.Host.{host-refusal, host-mean, host-deviation, host-percentages, host-payment, host-mixture-limits, held-lot, host-read, host-written};
+ghost use Rattle.rules.specs.Lot.{lot-in};
+ghost use Rattle.rules.specs.Notebook.{mean-asked, deviation-asked, pwl-asked};
+ghost use Rattle.rules.specs.Entries.{mean-says, deviation-says, evaluation-says, read-leaves, write-says, after-write, pay-says, mixture-says};
+ghost use Rattle.rules.specs.Host.{host-refusal, host-mean, host-deviation, host-percentages, host-payment, host-mixture-limits, given-lot, given-row, held-lot, host-read, host-written};
 
 #[no_mangle]
 pub extern "C" fn tulpavice_mean(readings: &[i32]) -> HostMean
@@ -42,7 +42,7 @@ pub extern "C" fn tulpavice_evaluate(
     lower: i32,
     lower_present: u32,
 ) -> HostPercentages
-    ensures { λ r. ⌜ r ≡ host-percentages (evaluation-says (lot-of (lent-limit upper «upper_present») (lent-limit lower «lower_present») (now (readings .entry)))) ⌝ }
+    ensures { λ r. ⌜ r ≡ host-percentages (evaluation-says (given-lot upper «upper_present» lower «lower_present» (now (readings .entry)))) ⌝ }
 {
     let above = limit(upper, upper_present);
     let below = limit(lower, lower_present);
@@ -91,7 +91,8 @@ pub extern "C" fn tulpavice_read(bytes: &[u8]) -> HostRead
 
 #[no_mangle]
 pub extern "C" fn tulpavice_write(lot: HostLot, out: &mut [u8]) -> HostWritten
-    ensures { λ r. ⌜ (r ≡ host-written (write-says (lot-in (held-lot lot)) (now (out .entry)))) × (now (out .exit) ≡ after-write (lot-in (held-lot lot)) (now (out .entry))) ⌝ }
+    ensures { λ r. ⌜ r ≡ host-written (write-says (lot-in (held-lot lot)) (now (out .entry))) ⌝ }
+    ensures { λ r. ⌜ now (out .exit) ≡ after-write (lot-in (held-lot lot)) (now (out .entry)) ⌝ }
 {
     host::written(record::write(held_lot(lot), out))
 }
@@ -104,7 +105,7 @@ pub extern "C" fn tulpavice_row_refusal(
     lower: i32,
     lower_present: u32,
 ) -> HostRefusal
-    ensures { λ r. ⌜ r ≡ host-refusal (row-says (lent-limit upper «upper_present») (lent-limit lower «lower_present») (now (readings .entry))) ⌝ }
+    ensures { λ r. ⌜ r ≡ host-refusal (given-row upper «upper_present» lower «lower_present» (now (readings .entry))) ⌝ }
 {
     let above = limit(upper, upper_present);
     let below = limit(lower, lower_present);
@@ -119,7 +120,7 @@ pub extern "C" fn tulpavice_row_mean(
     lower: i32,
     lower_present: u32,
 ) -> f64
-    ensures { λ r. ⌜ r ≡ mean-asked (row-says (lent-limit upper «upper_present») (lent-limit lower «lower_present») (now (readings .entry))) ⌝ }
+    ensures { λ r. ⌜ r ≡ mean-asked (given-row upper «upper_present» lower «lower_present» (now (readings .entry))) ⌝ }
 {
     let above = limit(upper, upper_present);
     let below = limit(lower, lower_present);
@@ -134,7 +135,7 @@ pub extern "C" fn tulpavice_row_deviation(
     lower: i32,
     lower_present: u32,
 ) -> f64
-    ensures { λ r. ⌜ r ≡ deviation-asked (row-says (lent-limit upper «upper_present») (lent-limit lower «lower_present») (now (readings .entry))) ⌝ }
+    ensures { λ r. ⌜ r ≡ deviation-asked (given-row upper «upper_present» lower «lower_present» (now (readings .entry))) ⌝ }
 {
     let above = limit(upper, upper_present);
     let below = limit(lower, lower_present);
@@ -149,7 +150,7 @@ pub extern "C" fn tulpavice_row_pwl(
     lower: i32,
     lower_present: u32,
 ) -> f64
-    ensures { λ r. ⌜ r ≡ pwl-asked (row-says (lent-limit upper «upper_present») (lent-limit lower «lower_present») (now (readings .entry))) ⌝ }
+    ensures { λ r. ⌜ r ≡ pwl-asked (given-row upper «upper_present» lower «lower_present» (now (readings .entry))) ⌝ }
 {
     let above = limit(upper, upper_present);
     let below = limit(lower, lower_present);

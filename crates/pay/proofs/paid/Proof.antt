@@ -45,7 +45,7 @@ final-pay-requires : tie.Need-final-pay-requires
 final-pay-requires c κs =
     let composed = c .before .before .before .before .before .before .before in
     let pre = composed .before .before .pre in
-    (pre .price, pre .quantity, rw (is-composite composed) (composite-lies-between (pre .percents)))
+    record { price = pre .price; quantity = pre .quantity; composite = rw (is-composite composed) (composite-lies-between (pre .percents)) }
 
 returns : tie.Need-returns
 unfolding payment

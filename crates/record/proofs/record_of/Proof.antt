@@ -1,22 +1,21 @@
 -- The loop has written the first i readings after the head, four bytes each.
 use mathlib.Core.Path.{_≡_, sym, ap, ap₂, _∙_}
-use mathlib.Core.List.{List, [], _∷_, _++_, append-nil, append-assoc}
-use Prim.Native.Nat.{ℕ, _+_, _*_, _-_, _≤_, _<_}
-use native.Mathlib.Numerals.{add-one}
+use mathlib.Core.List.{List, _++_, append-nil}
+use Prim.Native.Nat.{ℕ, _+_, _*_, _-_, _≤_}
 use native.Mathlib.Omega.{arith}
 use borrow.Author.Needs.{needs}
 use lib.Dec.{lit≤}
-use lib.IntN.{ℤ, pos}
-use lib.ListN.{length, length-append, length-drop, length-map, length-set, List·getD-map, take, drop, getD, replicate}
-use lib.Seq.{length-take-le, take-length, take-suc, take-at}
+use lib.IntN.{pos}
+use lib.ListN.{length, length-append, length-drop, length-map, take, drop, getD, replicate}
+use lib.Seq.{take-length, take-at}
 use mir.Syntax.{w32}
 use mir.Val.{SFits}
 use mir.Facts.{toZ-ofZ}
 use Rattle.rules.specs.declared.Thousandths.{Thousandths}
 use Rattle.rules.specs.Units.{thousandths}
 use Rattle.rules.specs.Lot.{most, plain}
-use Rattle.rules.specs.Record.{spell, in-four, in-fours, head-size, record-of}
-use Rattle.laws.proofs.Spelled.{in-fours-snoc, stored-four}
+use Rattle.rules.specs.Record.{in-fours, head-size, record-of}
+use Rattle.laws.proofs.Words.{written-suc}
 use Rattle.record.proofs.record_of.Statement.{statement}
 use Rattle.record.proofs.record_of.Tie as tie
 
@@ -35,23 +34,6 @@ copied : (head zeros whole : List ℕ) → length head ≡ head-size → head-si
 copied head zeros whole size room e =
     let all : whole ≡ head ++ drop (length head) zeros = e ∙ ap (λ (bs : List ℕ). bs ++ drop (length head) zeros) (take-length head) in
     (rw all (omega (arith, length-append head (drop (length head) zeros), length-drop (length head) zeros)), rw all (take-at head (drop (length head) zeros) head-size size))
-
--- One reading more.
-next :
-    (rs : List Thousandths) (first ys fs : List ℕ) (i : ℕ) → i < length rs → head-size + 4 * i + 4 ≤ length ys → length fs ≡ 4 →
-    fs ≡ in-four (getD rs i (thousandths (pos 0)) .0) → take (head-size + 4 * i) ys ≡ first ++ in-fours (take i (plain rs)) →
-    take (head-size + 4 * (i + 1)) (take (head-size + 4 * i) ys ++ fs ++ drop (head-size + 4 * i + 4) ys) ≡ first ++ in-fours (take (i + 1) (plain rs))
-next rs first ys fs i there room size is e =
-    let xs : List ℤ = plain rs in
-    let x : ℤ = getD rs i (thousandths (pos 0)) .0 in
-    let at : ℕ = head-size + 4 * i in
-    let also : i < length xs = rw (length-map rs (λ (r : Thousandths). r .0)) there in
-    let long : length (take at ys ++ fs) ≡ head-size + 4 * (i + 1) = omega (arith, length-append (take at ys) fs, length-take-le at ys (omega arith)) in
-    let one-more : take (i + 1) xs ≡ take i xs ++ (x ∷ []) = rw (add-one i) (take-suc xs i (pos 0) also ∙ ap (λ (z : ℤ). take i xs ++ (z ∷ [])) (List·getD-map (λ (r : Thousandths). r .0) rs i (thousandths (pos 0)))) in
-    take-at (take at ys ++ fs) (drop (at + 4) ys) (head-size + 4 * (i + 1)) long
-    ∙ ap₂ _++_ e is
-    ∙ append-assoc first (in-fours (take i xs)) (in-four x)
-    ∙ ap (λ (bs : List ℕ). first ++ bs) (sym (ap in-fours one-more ∙ in-fours-snoc (take i xs) x))
 
 cast-n : tie.Need-cast-n Inv-loop μ-loop
 cast-n c = search needs
@@ -80,50 +62,17 @@ mul-reading c = omega arith
 array-copy-out-reading : tie.Need-array-copy-out-reading Inv-loop μ-loop
 array-copy-out-reading c = omega arith
 
-unsigned-requires : tie.Need-unsigned-requires Inv-loop μ-loop
-unsigned-requires c κs = search needs
+slice-aggregate-put : tie.Need-slice-aggregate-put Inv-loop μ-loop
+slice-aggregate-put c = omega arith
 
-spell-requires : tie.Need-spell-requires Inv-loop μ-loop
-spell-requires c κs = search needs
+mul-put : tie.Need-mul-put Inv-loop μ-loop
+mul-put c = omega arith
 
-mul-at : tie.Need-mul-at Inv-loop μ-loop
-mul-at c = omega arith
+add-put : tie.Need-add-put Inv-loop μ-loop
+add-put c = omega arith
 
-add-at : tie.Need-add-at Inv-loop μ-loop
-add-at c = omega arith
-
-array-read-whole : tie.Need-array-read-whole Inv-loop μ-loop
-array-read-whole c = search needs
-
-array-write-whole : tie.Need-array-write-whole Inv-loop μ-loop
-array-write-whole c = omega arith
-
-array-read-whole-2 : tie.Need-array-read-whole-2 Inv-loop μ-loop
-array-read-whole-2 c = search needs
-
-add-whole : tie.Need-add-whole Inv-loop μ-loop
-add-whole c = omega arith
-
-array-write-whole-2 : tie.Need-array-write-whole-2 Inv-loop μ-loop
-array-write-whole-2 c = omega arith
-
-array-read-whole-3 : tie.Need-array-read-whole-3 Inv-loop μ-loop
-array-read-whole-3 c = search needs
-
-add-whole-2 : tie.Need-add-whole-2 Inv-loop μ-loop
-add-whole-2 c = omega arith
-
-array-write-whole-3 : tie.Need-array-write-whole-3 Inv-loop μ-loop
-array-write-whole-3 c = omega arith
-
-array-read-whole-4 : tie.Need-array-read-whole-4 Inv-loop μ-loop
-array-read-whole-4 c = search needs
-
-add-whole-3 : tie.Need-add-whole-3 Inv-loop μ-loop
-add-whole-3 c = omega arith
-
-array-write-whole-4 : tie.Need-array-write-whole-4 Inv-loop μ-loop
-array-write-whole-4 c = omega arith
+put-requires : tie.Need-put-requires Inv-loop μ-loop
+put-requires c κs = omega arith
 
 add-i : tie.Need-add-i Inv-loop μ-loop
 add-i c = omega arith
@@ -133,17 +82,16 @@ loop-less c = omega arith
 
 loop-again : tie.Need-loop-again Inv-loop μ-loop
 loop-again c =
-    let start = c .before .before .before .before .before .before .before .before .before .before .before .before .before in
-    let loop = c .before .before .before .before .before .loop in
+    let at = c .before .before .before .before .before .before in
+    let start = at .before .before .before .before .before .before .before .before in
     let rs : List Thousandths = start .args .lot .readings in
-    let room : head-size + 4 * loop .i + 4 ≤ length (loop .whole) = omega (arith, loop .inv .1) in
+    let room : head-size + 4 * at .loop .i + 4 ≤ length (at .loop .whole) = omega (arith, at .loop .inv .1) in
     let places : length rs ≡ most = places start in
-    let f : SFits w32 (getD rs (loop .i) (thousandths (pos 0)) .0) = record { sfits = c .before .before .struct-told .given .0 .1 } in
-    let four : c .spell .result ≡ in-four (getD rs (loop .i) (thousandths (pos 0)) .0) = c .spell .ensures ∙ ap (spell 4) (simp toZ-ofZ at (c .before .unsigned .ensures)) in (
+    let f : SFits w32 (getD rs (at .loop .i) (thousandths (pos 0)) .0) = record { sfits = c .before .before .struct-told .given .0 .1 } in (
       omega arith,
-      simp length-set (loop .inv .1),
-      ap (take (head-size + 4 * (loop .i + 1))) (stored-four (loop .whole) (c .spell .result) (head-size + 4 * loop .i) room (c .spell .ok .1 .0 .1))
-          ∙ next rs (take head-size (c .before .before .before .before .before .before .before .copy .last .1 .0)) (loop .whole) (c .spell .result) (loop .i) (omega arith) room (c .spell .ok .1 .0 .1) four (loop .inv .2),
+      c .before .put .kept .0 ∙ at .loop .inv .1,
+      ap (take (head-size + 4 * (at .loop .i + 1))) (simp toZ-ofZ at (c .before .put .ensures))
+          ∙ written-suc rs (take head-size (at .before .before .copy .last .1 .0)) (at .loop .whole) (at .loop .i) (omega arith) room (at .loop .inv .2),
     )
 
 returns : tie.Need-returns Inv-loop μ-loop
@@ -173,21 +121,10 @@ record-of-spec =
     loop-holds
     mul-reading
     array-copy-out-reading
-    unsigned-requires
-    spell-requires
-    mul-at
-    add-at
-    array-read-whole
-    array-write-whole
-    array-read-whole-2
-    add-whole
-    array-write-whole-2
-    array-read-whole-3
-    add-whole-2
-    array-write-whole-3
-    array-read-whole-4
-    add-whole-3
-    array-write-whole-4
+    slice-aggregate-put
+    mul-put
+    add-put
+    put-requires
     add-i
     loop-less
     loop-again

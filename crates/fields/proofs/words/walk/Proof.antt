@@ -1,17 +1,19 @@
 -- The loop has the totals of the readings before i, of which none is out of range, and these in their places with zeros after them.
-use mathlib.Core.Path.{_≡_, refl, sym, ap, _∙_}
+use mathlib.Core.Path.{_≡_, refl, sym, ap, ap₂, _∙_}
 use mathlib.Core.Bool.{true≢false}
 use mathlib.Core.List.{List}
-use Prim.Native.Nat.{ℕ, _*_, _-_, _≤_, _<_}
+use Prim.Native.Nat.{ℕ, _-_, _≤_, _<_}
 use native.Mathlib.Omega.{arith}
 use borrow.Author.Needs.{needs}
-use lib.IntN.{pos}
-use lib.ListN.{length, getD}
+use lib.IntN.{ℤ, pos}
+use lib.ListN.{length, getD, set}
 use mir.Syntax.{w32}
-use mir.Val.{SFits, toZ}
+use mir.Val.{SFits}
 use mir.Facts.{toZ-ofZ, fits-below}
+use Rattle.rules.specs.declared.Thousandths.{Thousandths}
+use Rattle.rules.specs.Units.{thousandths}
 use Rattle.rules.specs.Lot.{most, in-places}
-use Rattle.rules.specs.Record.{four, fours, part}
+use Rattle.rules.specs.Record.{fours}
 use Rattle.rules.specs.Answers.{totals-said}
 use Rattle.laws.specs.Totalled.{pass-says}
 use Rattle.laws.proofs.Spelled.{length-fours}
@@ -33,56 +35,47 @@ loop-holds : tie.Need-loop-holds Inv-loop μ-loop
 unfolding fours
 loop-holds c = (walk-starts (fours (c .before .args .n) (c .before .args .bytes .now)) (sym (length-fours (c .before .args .n) (c .before .args .bytes .now))), refl)
 
-mul-word : tie.Need-mul-word Inv-loop μ-loop
-mul-word c = omega arith
+reading-requires : tie.Need-reading-requires Inv-loop μ-loop
+reading-requires c κs = omega arith
 
-word-requires : tie.Need-word-requires Inv-loop μ-loop
-word-requires c κs = omega arith
+-- The readings, which of them is reached, and that it is what was read.
+module _ (c : tie.After-reading Inv-loop μ-loop) where
+  abbrev at : tie.At-loop Inv-loop μ-loop
+  at = c .before .before
 
-signed-requires : tie.Need-signed-requires Inv-loop μ-loop
-signed-requires c κs = search needs
+  abbrev bytes : List ℕ
+  bytes = at .before .before .args .bytes .now
 
--- The bytes, how many readings they hold, and which is reached.
-abbrev bytes : tie.After-signed Inv-loop μ-loop → List ℕ
-bytes c = c .before .before .before .before .before .args .bytes .now
+  abbrev readings : List ℤ
+  readings = fours (at .before .before .args .n) bytes
 
-abbrev count : tie.After-signed Inv-loop μ-loop → ℕ
-count c = c .before .before .before .before .before .args .n
+  below : at .loop .i < length readings
+  below = omega (arith, c .before .loop-test .taken, length-fours (at .before .before .args .n) bytes)
 
-abbrev place : tie.After-signed Inv-loop μ-loop → ℕ
-place c = c .before .before .before .loop .i
-
-below : (c : tie.After-signed Inv-loop μ-loop) → place c < length (fours (count c) (bytes c))
-below c = omega (arith, c .before .before .loop-test .taken, length-fours (count c) (bytes c))
-
-spelled : (c : tie.After-signed Inv-loop μ-loop) → c .signed .result ≡ four (part (4 * place c) 4 (bytes c))
-spelled c = c .signed .ensures ∙ ap (toZ w32) (c .before .word .ensures)
-
-reading : (c : tie.After-signed Inv-loop μ-loop) → c .signed .result ≡ getD (fours (count c) (bytes c)) (place c) (pos 0)
-reading c = spelled c ∙ sym (fours-at (count c) (bytes c) (place c) (c .before .before .loop-test .taken))
+  is-read : c .reading .result ≡ getD readings (at .loop .i) (pos 0)
+  is-read = c .reading .ensures ∙ sym (fours-at (at .before .before .args .n) bytes (at .loop .i) (c .before .loop-test .taken))
 
 pass-requires : tie.Need-pass-requires Inv-loop μ-loop
 pass-requires c κs =
-    let at = c .before .before .before in
-    let w : Walked (fours (count c) (bytes c)) (place c) (at .loop .a) = at .loop .inv .0 in
-    let few = at .before .before .pre .0 in
-    let passed : place c ≤ most = omega (arith, below c, length-fours (count c) (bytes c)) in
+    let w : Walked (readings c) (at c .loop .i) (at c .loop .a) = at c .loop .inv .0 in
+    let few = at c .before .before .pre .0 in
+    let passed : at c .loop .i ≤ most = omega (arith, c .before .loop-test .taken) in
     (omega (arith, w .sum-small), omega (arith, w .squares-small))
 
 enum-known-refusal : tie.Need-enum-known-refusal Inv-loop μ-loop
 enum-known-refusal c = search needs
 
 -- What one more reading brings.
-said : (c : tie.After-pass Inv-loop μ-loop) → totals-said (c .pass .result) ≡ pass-says (c .before .before .before .before .loop .a) (getD (fours (count (c .before)) (bytes (c .before))) (place (c .before)) (pos 0))
+said : (c : tie.After-pass Inv-loop μ-loop) → totals-said (c .pass .result) ≡ pass-says (at (c .before) .loop .a) (getD (readings (c .before)) (at (c .before) .loop .i) (pos 0))
 said c =
-    let f : SFits w32 (c .before .signed .result) = record { sfits = c .before .signed .ok } in
-    (simp toZ-ofZ at (c .pass .ensures)) ∙ ap (pass-says (c .before .before .before .before .loop .a)) (reading (c .before))
+    let f : SFits w32 (c .before .reading .result) = record { sfits = c .before .reading .ok } in
+    (simp toZ-ofZ at (c .pass .ensures)) ∙ ap (pass-says (at (c .before) .loop .a)) (is-read (c .before))
 
 returns : tie.Need-returns Inv-loop μ-loop
 returns c =
     let passed = c .before .before .before in
-    let at = passed .before in
-    let r = walk-refuses (fours (count at) (bytes at)) (place at) (below at) (at .before .before .before .loop .inv .0) (said passed) (c .before .refusal .given .1) in
+    let read = passed .before in
+    let r = walk-refuses (readings read) (at read .loop .i) (below read) (at read .loop .inv .0) (said passed) (c .before .refusal .given .1) in
     (sym (r .0), λ near. absurd (true≢false (sym (r .1) ∙ near)))
 
 enum-known-more : tie.Need-enum-known-more Inv-loop μ-loop
@@ -103,12 +96,12 @@ loop-less c = omega arith
 loop-again : tie.Need-loop-again Inv-loop μ-loop
 loop-again c =
     let passed = c .before .before .before in
-    let at = passed .before in
-    let inv = at .before .before .before .loop .inv in
-    let f : SFits w32 (at .signed .result) = record { sfits = at .signed .ok } in
+    let read = passed .before in
+    let inv = at read .loop .inv in
+    let f : SFits w32 (read .reading .result) = record { sfits = read .reading .ok } in
     simp toZ-ofZ (
-      walk-goes-on (fours (count at) (bytes at)) (place at) (below at) (inv .0) (said passed) (c .before .more .given .1),
-      rw (inv .1, spelled at) (placed-suc (place at) (bytes at) (omega arith)),
+      walk-goes-on (readings read) (at read .loop .i) (below read) (inv .0) (said passed) (c .before .more .given .1),
+      ap₂ (λ (rs : List Thousandths) (x : ℤ). set rs (at read .loop .i) (thousandths x)) (inv .1) (read .reading .ensures) ∙ placed-suc (at read .loop .i) (bytes read) (omega arith),
     )
 
 returns-2 : tie.Need-returns-2 Inv-loop μ-loop
@@ -128,9 +121,7 @@ walk-spec =
     μ-loop
     cast-t9
     loop-holds
-    mul-word
-    word-requires
-    signed-requires
+    reading-requires
     pass-requires
     enum-known-refusal
     returns

@@ -11,7 +11,7 @@ use mir.Facts.{toZ-ofZ}
 use Rattle.integers.proofs.Magnitude.{natAbs-add, natAbs-mul, fits-of}
 use Rattle.integers.proofs.Division.{natAbs-quotZ}
 use Rattle.rules.specs.Pay.{final-pay}
-use Rattle.laws.specs.Between.{Between}
+use Rattle.laws.specs.Payable.{Priced}
 use Rattle.laws.proofs.Between.{between-magnitude}
 use Rattle.pay.proofs.PayRule.final_pay.Statement.{statement}
 use Rattle.pay.proofs.PayRule.final_pay.Tie as tie
@@ -29,11 +29,11 @@ record Fits (p q c : ℤ) : Type 0 where
   sum : SFits w64 (p *ℤ q *ℤ c +ℤ pos half)
   quotient : SFits w64 (quotZ (p *ℤ q *ℤ c +ℤ pos half) (pos 100000))
 
-fits : (p q c : ℤ) → Between (pos 0) (pos 10000000) p × Between (pos 0) (pos 100000000) q × Between (pos 530) (pos 1030) c → Fits p q c
-fits p q c (hp, hq, hc) =
-    let mp : natAbs p ≤ 10000000 = between-magnitude hp in
-    let mq : natAbs q ≤ 100000000 = between-magnitude hq in
-    let mc : natAbs c ≤ 1030 = between-magnitude hc in
+fits : (p q c : ℤ) → Priced p q c → Fits p q c
+fits p q c h =
+    let mp : natAbs p ≤ 10000000 = between-magnitude (h .price) in
+    let mq : natAbs q ≤ 100000000 = between-magnitude (h .quantity) in
+    let mc : natAbs c ≤ 1030 = between-magnitude (h .composite) in
     let whole : natAbs (p *ℤ q) ≤ 1000000000000000 = omega (arith, natAbs-mul p q, mul-le-mul mp mq) in
     let paid : natAbs (p *ℤ q *ℤ c) ≤ 1030000000000000000 = omega (arith, natAbs-mul (p *ℤ q) c, mul-le-mul whole mc) in
     let sum : natAbs (p *ℤ q *ℤ c +ℤ pos half) ≤ 1030000000000000000 + half = omega (arith, natAbs-add (p *ℤ q *ℤ c) (pos half)) in

@@ -16,11 +16,11 @@ use Rattle.rules.specs.declared.Percentages.{Percentages}
 use Rattle.rules.specs.Said.{refused, answers, Case, checked}
 use Rattle.rules.specs.Lot.{Lot, lot-of, most}
 use Rattle.rules.specs.Table.{Found, table-106-1, entries}
-use Rattle.rules.specs.Percent.{Rule, nearest, totals}
+use Rattle.rules.specs.Percent.{Rule, totals}
 use Rattle.rules.specs.Refusals.{allowed, count-case, out-of-range, any-out, range-case, unlimited-case, crossed, crossed-case}
 use Rattle.rules.specs.Meets.{readings-meet, limits-meet, lot-meets, counted-meets, evaluation-meets}
 use Rattle.rules.specs.Answers.{totals-said}
-use Rattle.rules.specs.Entries.{percentages-of, percentages, evaluated, evaluation-says}
+use Rattle.rules.specs.Entries.{percentages-of, percentages, column-for, evaluated}
 use Rattle.laws.specs.Totalled.{totals-says, lot-totals, totalled}
 use Rattle.laws.specs.Bounds.{Accepted, Bounded}
 use Rattle.laws.specs.Moved.{Counted}
@@ -120,17 +120,17 @@ lent-readings h = record { least = h .least; few = h .few; near = h .near }
 
 -- It is by the totals of the lot where these are answered,
 pub totalled-is-evaluated :
-    {lot : Lot} {a : Totals} → LotTotalled counted-meets lot a →
-    answers (percentages-of nearest (entries (table-106-1 (a .n))) a (lot .upper) (lot .lower)) ≡ evaluation-says lot
-unfolding evaluation-says evaluated evaluation-meets
-totalled-is-evaluated {lot} h =
-    ap (λ (b : Totals). answers (percentages-of nearest (entries (table-106-1 (b .n))) b (lot .upper) (lot .lower))) (sym (h .same))
+    (rule : Rule) {lot : Lot} {a : Totals} → LotTotalled counted-meets lot a →
+    answers (percentages-of rule (entries (table-106-1 (a .n))) a (lot .upper) (lot .lower)) ≡ evaluated rule (column-for lot) lot
+unfolding evaluated evaluation-meets
+totalled-is-evaluated rule {lot} h =
+    ap (λ (b : Totals). answers (percentages-of rule (entries (table-106-1 (b .n))) b (lot .upper) (lot .lower))) (sym (h .same))
     ∙ sym (ruled-unrefused _ _ (h .unrefused))
 
 -- and else is refused as they are.
-pub untotalled-is-refused : (lot : Lot) {t : TotalsAnswer} {r : Refusal} → totals-said t ≡ totalled counted-meets lot → t ≡ TotalsAnswer.Refused r → evaluation-says lot ≡ refused r
-unfolding evaluation-says evaluated evaluation-meets totalled
-untotalled-is-refused lot e h = totals-refused (counted-meets lot) (lot-totals lot) e _ h
+pub untotalled-is-refused : (rule : Rule) (found : Found) (lot : Lot) {t : TotalsAnswer} {r : Refusal} → totals-said t ≡ totalled counted-meets lot → t ≡ TotalsAnswer.Refused r → evaluated rule found lot ≡ refused r
+unfolding evaluated evaluation-meets totalled
+untotalled-is-refused rule found lot e h = totals-refused (counted-meets lot) (lot-totals lot) e _ h
 
 -- An evaluation that is answered has the lot's percentages, and its lot is not refused.
 pub answered : (rule : Rule) (found : Found) (lot : Lot) (p : Percentages) → evaluated rule found lot ≡ answers p → LotAccepted lot × (percentages rule (entries found) lot ≡ p)

@@ -4,9 +4,9 @@ use mathlib.Core.Path.{_≡_, refl}
 use mathlib.Core.Bool.{false}
 use Prim.Native.Nat.{ℕ, zero, suc, _≤_}
 use native.Mathlib.Omega.{arith}
-use lib.IntN.{ℤ, pos, negsuc, natAbs}
+use lib.IntN.{ℤ, pos, negsuc, natAbs, _-ℤ_}
 use lib.Signed.{ltZ}
-use Rattle.integers.proofs.Difference.{nat, diff-le, arithℤ, ⊝_}
+use Rattle.integers.proofs.Difference.{var, nat, diff-le, le-read, arithℤ, ⊝_, _⊖_}
 use Rattle.integers.proofs.Order.{≤ℤ-trans, ltZ-false, le-ltZ}
 use Rattle.integers.proofs.Magnitude.{within}
 use Rattle.rules.specs.Refusals.{outside}
@@ -31,3 +31,11 @@ one-of-four {z = pos (suc (suc zero))} h at-0 at-1 at-2 at-3 = at-2 refl
 one-of-four {z = pos (suc (suc (suc zero)))} h at-0 at-1 at-2 at-3 = at-3 refl
 one-of-four {z = pos (suc (suc (suc (suc n))))} h at-0 at-1 at-2 at-3 = absurd (omega arithℤ)
 one-of-four {z = negsuc n} h at-0 at-1 at-2 at-3 = absurd (h .low .le)
+
+-- What is left to the greatest number, of one from 0 on, is such a number too.
+pub rest-between : {g : ℕ} {z : ℤ} → Between (pos 0) (pos g) z → Between (pos 0) (pos g) (pos g -ℤ z)
+rest-between {g} {z} h =
+    record {
+      low = diff-le (nat 0) (nat g ⊖ var z) (omega (arith, le-read (h .low), le-read (h .high)));
+      high = diff-le (nat g ⊖ var z) (nat g) (omega (arith, le-read (h .low), le-read (h .high)));
+    }

@@ -1,6 +1,6 @@
 -- A lot moved by one amount, with nothing out of range before or after, has the same answer: the cases that it meets and its percentages
 -- go by differences, which stay.
-use mathlib.Core.Path.{_≡_, refl, sym, _∙_}
+use mathlib.Core.Path.{_≡_, refl}
 use mathlib.Core.Bool.{Bool, true, false}
 use mathlib.Core.List.{List}
 use Prim.Native.Nat.{ℕ}
@@ -10,7 +10,7 @@ use Rattle.integers.proofs.Order.{ltZ-shift}
 use Rattle.rules.specs.declared.Limit.{Limit}
 use Rattle.rules.specs.declared.Limit.the-variants.{Absent, At}
 use Rattle.rules.specs.declared.Mean.{Mean}
-use Rattle.rules.specs.Said.{answers}
+use Rattle.rules.specs.Said.{answers, ruled}
 use Rattle.rules.specs.Lot.{Lot}
 use Rattle.rules.specs.Table.{Found, entries}
 use Rattle.rules.specs.Percent.{Rule, totals, upper-side, lower-side}
@@ -18,7 +18,7 @@ use Rattle.rules.specs.Refusals.{count-case, any-out, none, crossed}
 use Rattle.rules.specs.Meets.{readings-meet, evaluation-meets}
 use Rattle.rules.specs.Entries.{mean-says, deviation-says, percentages-of, percentages, evaluated}
 use Rattle.laws.specs.Moved.{moved-readings, moved-limit, moved, InRange, Counted}
-use Rattle.laws.proofs.Ruled.{ruled-met, ruled-answers}
+use Rattle.laws.proofs.Ruled.{ruled-answers}
 use Rattle.laws.proofs.Accepted.{count-allowed}
 use Rattle.laws.proofs.MovedTotals.{sum-moves, spread-stays, upper-distance-stays, lower-distance-stays}
 
@@ -33,10 +33,6 @@ crossed-stays : (amount : ℤ) (upper lower : Limit) → crossed (moved-limit am
 crossed-stays amount Absent lower = refl
 crossed-stays amount (At u) Absent = refl
 crossed-stays amount (At u) (At l) = ltZ-shift (u .0) (l .0) amount
-
-meets-stay : (amount : ℤ) (lot : Lot) → InRange lot → InRange (moved amount lot) → evaluation-meets (moved amount lot) ≡ evaluation-meets lot
-unfolding evaluation-meets
-meets-stay amount lot near near′ = rw (near, near′, none-stays amount (lot .upper) (lot .lower), crossed-stays amount (lot .upper) (lot .lower))
 
 -- ---- the percentages
 
@@ -63,19 +59,19 @@ pub moving-changes-nothing :
     (rule : Rule) (found : Found) (amount : ℤ) (lot : Lot) →
     Counted lot → InRange lot → InRange (moved amount lot) →
     evaluated rule found (moved amount lot) ≡ evaluated rule found lot
-unfolding evaluated evaluation-meets
+unfolding evaluated evaluation-meets ruled
 moving-changes-nothing rule found amount lot says near near′ = by (count-case (lot .n) .applies) refl
   where
     by : (b : Bool) → count-case (lot .n) .applies ≡ b → evaluated rule found (moved amount lot) ≡ evaluated rule found lot
-    by true e = ruled-met _ _ _ e ∙ sym (ruled-met _ _ _ e)
-    by false e = rw (meets-stay amount lot near near′, percentages-stay rule (entries found) amount lot (says (count-allowed (lot .n) e .1)))
+    by true e = rw e
+    by false e = rw (near, near′, none-stays amount (lot .upper) (lot .lower), crossed-stays amount (lot .upper) (lot .lower), percentages-stay rule (entries found) amount lot (says (count-allowed (lot .n) e .1)))
 
 -- The deviation does not change either, where no reading is out of range.
 pub moving-keeps-deviation :
     (amount : ℤ) (xs : List ℤ) →
     any-out xs ≡ false → any-out (moved-readings amount xs) ≡ false →
     deviation-says (moved-readings amount xs) ≡ deviation-says xs
-unfolding deviation-says readings-meet
+unfolding deviation-says readings-meet ruled
 moving-keeps-deviation amount xs near near′ = rw (near, near′, length-map, spread-stays amount xs)
 
 -- T moves by n times the amount.

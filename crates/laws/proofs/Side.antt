@@ -21,7 +21,7 @@ use Rattle.laws.specs.Reached.{reached}
 use Rattle.laws.proofs.Table.{entry-at-most}
 
 -- A number up to 10,000 is a percentage, and so is the rest to 10,000.
-itself : (e : ℕ) → e ≤ 10000 → InPercent (pos e)
+pub itself : (e : ℕ) → e ≤ 10000 → InPercent (pos e)
 itself e h = record { low = pos-mono zero-le; high = pos-mono h }
 
 rest : (e : ℕ) → e ≤ 10000 → InPercent (hundred-percent -ℤ pos e)

@@ -20,7 +20,7 @@ fn admits(n: u64, v: u64, d: i64, k: u64) -> bool
 // Inner: a side keeps the bounds.
 pub fn row(n: u64, v: u64, d: i64) -> u64
     requires { ⌜ SpreadInBounds n v × DistanceInBounds d ⌝ }
-    ensures { λ r. ⌜ r ≡ nearest n (pos v) d ⌝ }
+    ensures { λ r. ⌜ (r ≡ nearest n (pos v) d) × (r ≤ last-row) ⌝ }
 {
     let mut low = 0;
     let mut high = 53;

@@ -16,12 +16,13 @@ ghost use Rattle.rules.specs.Percent.{spread, nearest, side, upper-side, lower-
 ghost use Rattle.rules.specs.Refusals.{out-of-range};
 ghost use Rattle.laws.specs.Bounds.{Bounded, SpreadInBounds, DistanceInBounds};
 ghost use Rattle.laws.specs.ColumnIn.{ColumnIn};
+ghost use Rattle.laws.specs.InPercent.{InPercent};
 ghost use Rattle.laws.specs.Reached.{reached};
 
 // The entry at the row; 10,000 where all readings are equal.
 fn reached(column: &[u8], n: u32, v: u64, d: i64) -> Hundredths
     requires { ⌜ ColumnIn (now column) × SpreadInBounds n v × DistanceInBounds d ⌝ }
-    ensures { λ r. ⌜ r .0 ≡ pos (reached nearest (column-in (now (column .entry))) n (pos v) d) ⌝ }
+    ensures { λ r. ⌜ (r .0 ≡ pos (reached nearest (column-in (now (column .entry))) n (pos v) d)) × InPercent (r .0) ⌝ }
 {
     if v == 0 {
         Hundredths(HUNDRED_PERCENT)
@@ -32,8 +33,8 @@ fn reached(column: &[u8], n: u32, v: u64, d: i64) -> Hundredths
 
 // The rest to 100 percent.
 fn rest(part: Hundredths) -> Hundredths
-    requires { ⌜ natAbs (part .0) ≤ 10000 ⌝ }
-    ensures { λ r. ⌜ r .0 ≡ hundred-percent -ℤ part .0 ⌝ }
+    requires { ⌜ InPercent (part .0) ⌝ }
+    ensures { λ r. ⌜ (r .0 ≡ hundred-percent -ℤ part .0) × InPercent (r .0) ⌝ }
 {
     Hundredths(HUNDRED_PERCENT - part.0)
 }
@@ -41,7 +42,7 @@ fn rest(part: Hundredths) -> Hundredths
 // The percentage of a side at a distance D.
 fn side(column: &[u8], n: u32, v: u64, d: i64) -> Hundredths
     requires { ⌜ ColumnIn (now column) × SpreadInBounds n v × DistanceInBounds d ⌝ }
-    ensures { λ r. ⌜ r .0 ≡ side nearest (column-in (now (column .entry))) n (pos v) d ⌝ }
+    ensures { λ r. ⌜ (r .0 ≡ side nearest (column-in (now (column .entry))) n (pos v) d) × InPercent (r .0) ⌝ }
 {
     let e = reached(column, n, v, d);
     if 0 <= d { e } else { rest(e) }
@@ -57,7 +58,7 @@ fn difference(x: i64, y: i64) -> i64
 // The side at the distance x − y.
 fn side_between(column: &[u8], n: u32, v: u64, x: i64, y: i64) -> Hundredths
     requires { ⌜ ColumnIn (now column) × SpreadInBounds n v × (natAbs x ≤ most * 500000) × (natAbs y ≤ most * 500000) ⌝ }
-    ensures { λ r. ⌜ r .0 ≡ side nearest (column-in (now (column .entry))) n (pos v) (x -ℤ y) ⌝ }
+    ensures { λ r. ⌜ (r .0 ≡ side nearest (column-in (now (column .entry))) n (pos v) (x -ℤ y)) × InPercent (r .0) ⌝ }
 {
     side(column, n, v, difference(x, y))
 }
@@ -72,7 +73,7 @@ fn times(n: u32, z: Thousandths) -> i64
 // The side of an upper limit: 10,000 where it is absent. Inner: an evaluation keeps the bounds.
 pub fn upper_side(column: &[u8], a: Totals, v: u64, upper: Limit) -> Hundredths
     requires { ⌜ ColumnIn (now column) × Bounded a × (pos v ≡ spread a) × (out-of-range upper ≡ false) ⌝ }
-    ensures { λ r. ⌜ r .0 ≡ upper-side nearest (column-in (now (column .entry))) a upper ⌝ }
+    ensures { λ r. ⌜ (r .0 ≡ upper-side nearest (column-in (now (column .entry))) a upper) × InPercent (r .0) ⌝ }
 {
     match upper {
         Limit::Absent => Hundredths(HUNDRED_PERCENT),
@@ -83,7 +84,7 @@ pub fn upper_side(column: &[u8], a: Totals, v: u64, upper: Limit) -> Hundredths
 // The side of a lower limit. Inner, as the other.
 pub fn lower_side(column: &[u8], a: Totals, v: u64, lower: Limit) -> Hundredths
     requires { ⌜ ColumnIn (now column) × Bounded a × (pos v ≡ spread a) × (out-of-range lower ≡ false) ⌝ }
-    ensures { λ r. ⌜ r .0 ≡ lower-side nearest (column-in (now (column .entry))) a lower ⌝ }
+    ensures { λ r. ⌜ (r .0 ≡ lower-side nearest (column-in (now (column .entry))) a lower) × InPercent (r .0) ⌝ }
 {
     match lower {
         Limit::Absent => Hundredths(HUNDRED_PERCENT),

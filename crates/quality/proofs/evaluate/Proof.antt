@@ -5,6 +5,7 @@ use Rattle.rules.specs.declared.Percentages.{Percentages}
 use Rattle.rules.specs.Said.{Said, answers}
 use Rattle.rules.specs.Lot.{lot-of}
 use Rattle.rules.specs.Meets.{counted-meets}
+use Rattle.rules.specs.Entries.{evaluation-says}
 use Rattle.laws.proofs.Accepted.{LotTotalled, lot-totalled, totalled-is-evaluated, untotalled-is-refused}
 use Rattle.laws.proofs.Lots.{lot-of-counted}
 use Rattle.quality.proofs.evaluate.Statement.{statement}
@@ -33,12 +34,14 @@ percentages-requires c κs =
     (h .bounded, h .accepted .upper-near, h .accepted .lower-near)
 
 returns : tie.Need-returns
-returns c = sym (untotalled-is-refused _ (c .before .before .before .lent .ensures) (c .before .refusal .given .1))
+unfolding evaluation-says
+returns c = sym (untotalled-is-refused _ _ _ (c .before .before .before .lent .ensures) (c .before .refusal .given .1))
 
 returns-2 : tie.Need-returns-2
+unfolding evaluation-says
 returns-2 c =
     let told = c .before .before in
-    ap answer (c .percentages .ensures) ∙ totalled-is-evaluated (totalled told)
+    ap answer (c .percentages .ensures) ∙ totalled-is-evaluated _ (totalled told)
 
 pub evaluate-spec : {M : Type 1} → statement M
 evaluate-spec =

@@ -7,6 +7,7 @@ use Rattle.rules.specs.declared.Percentages.{Percentages}
 use Rattle.rules.specs.Said.{Said, answers}
 use Rattle.rules.specs.Lot.{most, lot-in}
 use Rattle.rules.specs.Meets.{counted-meets}
+use Rattle.rules.specs.Entries.{evaluation-says}
 use Rattle.laws.proofs.Accepted.{LotTotalled, lot-totalled, totalled-is-evaluated, untotalled-is-refused}
 use Rattle.laws.proofs.Lots.{lot-in-counted}
 use Rattle.quality.proofs.evaluate_held.Statement.{statement}
@@ -37,10 +38,12 @@ percentages-requires c κs =
     (h .bounded, h .accepted .upper-near, h .accepted .lower-near)
 
 returns : tie.Need-returns
-returns c = sym (untotalled-is-refused _ (c .before .before .before .held .ensures) (c .before .refusal .given .1))
+unfolding evaluation-says
+returns c = sym (untotalled-is-refused _ _ _ (c .before .before .before .held .ensures) (c .before .refusal .given .1))
 
 returns-2 : tie.Need-returns-2
-returns-2 c = ap answer (c .percentages .ensures) ∙ totalled-is-evaluated (totalled (c .before .before))
+unfolding evaluation-says
+returns-2 c = ap answer (c .percentages .ensures) ∙ totalled-is-evaluated _ (totalled (c .before .before))
 
 pub evaluate-held-spec : {M : Type 1} → statement M
 evaluate-held-spec =

@@ -1,13 +1,19 @@
 -- The column is Table 106-1's for the count, and the percentages are by it.
-use mathlib.Core.Path.{ap, _∙_}
+use mathlib.Core.Path.{_≡_, ap, _∙_}
 use mathlib.Core.List.{List}
 use Prim.Native.Nat.{ℕ}
 use borrow.Author.Needs.{needs}
-use Rattle.rules.specs.Percent.{nearest}
+use Rattle.rules.specs.declared.Totals.{Totals}
+use Rattle.rules.specs.declared.Limit.{Limit}
+use Rattle.rules.specs.Percent.{Rule}
 use Rattle.rules.specs.Entries.{percentages-of}
 use Rattle.laws.proofs.ColumnIn.{table-106-1-column-in}
 use Rattle.quality.proofs.percentages.Statement.{statement}
 use Rattle.quality.proofs.percentages.Tie as tie
+
+-- Percentages by one column are those by the same.
+same-column : (rule : Rule) {xs ys : List ℕ} (a : Totals) (upper lower : Limit) → xs ≡ ys → percentages-of rule xs a upper lower ≡ percentages-of rule ys a upper lower
+same-column rule a upper lower e = ap (λ (column : List ℕ). percentages-of rule column a upper lower) e
 
 cast-column : tie.Need-cast-column
 cast-column c = search needs
@@ -27,7 +33,7 @@ by-column-requires c κs =
 returns : tie.Need-returns
 returns c =
     let args = c .before .before .before .before .args in
-    c .by-column .ensures ∙ ap (λ (column : List ℕ). percentages-of nearest column (args .a) (args .upper) (args .lower)) (c .before .before .column .ensures)
+    c .by-column .ensures ∙ same-column _ (args .a) (args .upper) (args .lower) (c .before .before .column .ensures)
 
 pub percentages-spec : {M : Type 1} → statement M
 percentages-spec =

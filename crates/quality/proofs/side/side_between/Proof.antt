@@ -6,7 +6,7 @@ use mir.Syntax.{w64}
 use mir.Val.{SFits}
 use mir.Facts.{toZ-ofZ}
 use Rattle.rules.specs.Table.{column-in}
-use Rattle.rules.specs.Percent.{nearest, side}
+use Rattle.rules.specs.Percent.{side}
 use Rattle.quality.proofs.side.side_between.Statement.{statement}
 use Rattle.quality.proofs.side.side_between.Tie as tie
 
@@ -22,8 +22,8 @@ returns c =
     let x = start .fits .x in
     let y = start .fits .y in
     let d : SFits w64 (c .before .difference .result) = record { sfits = c .before .difference .ok } in
-    (simp toZ-ofZ at (c .side .ensures))
-    ∙ ap (side nearest (column-in (start .args .column .now)) (start .args .n) (pos (start .args .v))) ((simp toZ-ofZ at (c .before .difference .ensures)) .0)
+    ((simp toZ-ofZ at (c .side .ensures)) .0
+    ∙ ap (side _ (column-in (start .args .column .now)) (start .args .n) (pos (start .args .v))) ((simp toZ-ofZ at (c .before .difference .ensures)) .0), c .side .ensures .1)
 
 pub side-between-spec : {M : Type 1} → statement M
 side-between-spec = tie.close (tie.spec difference-requires side-requires returns)

@@ -1,6 +1,7 @@
 -- An absent limit has 10,000; a present one is in range, so its distance is small enough for its side.
 use mathlib.Core.Path.{ap, ap₂, _∙_}
 use Prim.Native.Nat.{_*_, _≤_}
+use native.Mathlib.Nat.{le-refl}
 use native.Mathlib.Omega.{arith}
 use borrow.Author.Needs.{needs}
 use lib.IntN.{ℤ, natAbs, _-ℤ_}
@@ -10,8 +11,9 @@ use mir.Facts.{toZ-ofZ}
 use Rattle.integers.proofs.Magnitude.{fits-of}
 use Rattle.rules.specs.Lot.{most}
 use Rattle.rules.specs.Table.{column-in}
-use Rattle.rules.specs.Percent.{upper-distance, nearest, side, upper-side}
+use Rattle.rules.specs.Percent.{upper-distance, side, upper-side}
 use Rattle.laws.proofs.Bounds.{total-bound, spread-in-bounds, limit-bound}
+use Rattle.laws.proofs.Side.{itself}
 use Rattle.quality.proofs.side.upper_side.Statement.{statement}
 use Rattle.quality.proofs.side.upper_side.Tie as tie
 
@@ -36,7 +38,7 @@ side-between-requires c κs =
 
 returns : tie.Need-returns
 unfolding upper-side
-returns c = simp (c .enum-told .given .1)
+returns c = (simp (c .enum-told .given .1), itself 10000 (le-refl 10000))
 
 returns-2 : tie.Need-returns-2
 unfolding upper-distance upper-side
@@ -45,9 +47,9 @@ returns-2 c =
     let p : SFits w64 (c .before .before .times .result) = record { sfits = c .before .before .times .ok } in
     let h : natAbs (start .args .a .t) ≤ most * 500000 = total-bound (start .pre .1) in
     let t : SFits w64 (start .args .a .t) = fits-of w64 (omega arith) in
-    rw (c .before .before .before .before .upper .given .1)
-    ((simp toZ-ofZ at (c .side-between .ensures))
-    ∙ ap₂ (side nearest (column-in (start .args .column .now)) (start .args .a .n)) (start .pre .2) (ap (λ (z : ℤ). z -ℤ start .args .a .t) (c .before .before .times .ensures .0)))
+    (rw (c .before .before .before .before .upper .given .1)
+    ((simp toZ-ofZ at (c .side-between .ensures)) .0
+    ∙ ap₂ (side _ (column-in (start .args .column .now)) (start .args .a .n)) (start .pre .2) (ap (λ (z : ℤ). z -ℤ start .args .a .t) (c .before .before .times .ensures .0))), c .side-between .ensures .1)
 
 pub upper-side-spec : {M : Type 1} → statement M
 upper-side-spec =

@@ -65,11 +65,13 @@ returns c =
     let args = c .before .before .args in
     let inv = c .before .loop .inv in
     let d : ℤ = toZ w64 (ofZ w64 (args .d)) in
-    let meet : c .before .loop .high ≡ c .before .loop .low = omega arith in
-    (sym
-    (row-is (args .n) (pos (args .v)) d (pos-mono zero-le) (c .before .loop .low) (omega arith) (inv .2)
-    (λ h. subst (λ (k : ℕ). admits (args .n) (pos (args .v)) d (suc k) ≡ false) meet (inv .3 (omega arith))))
-    ∙ ap (nearest (args .n) (pos (args .v))) (toZ-ofZ (c .before .before .fits .d)), omega arith)
+    let meet : c .before .loop .high ≡ c .before .loop .low = omega arith in (
+      sym
+          (row-is (args .n) (pos (args .v)) d (pos-mono zero-le) (c .before .loop .low) (omega arith) (inv .2)
+          (λ h. subst (λ (k : ℕ). admits (args .n) (pos (args .v)) d (suc k) ≡ false) meet (inv .3 (omega arith))))
+          ∙ ap (nearest (args .n) (pos (args .v))) (toZ-ofZ (c .before .before .fits .d)),
+      omega arith,
+    )
 
 pub row-spec : {M : Type 1} → statement M
 row-spec =

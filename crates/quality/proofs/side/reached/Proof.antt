@@ -29,11 +29,12 @@ returns-2 : tie.Need-returns-2
 returns-2 c =
     let start = c .before .before .before .before in
     let args = start .args in
-    let f = start .fits .d in
-    (c .entry .ensures
-    ∙ ap (λ (k : ℕ). pos (entry (column-in (args .column .now)) k)) ((simp toZ-ofZ at (c .before .row .ensures)) .0)
-    ∙ sym (ap pos (reached-entry _ (column-in (args .column .now)) (args .n) (pos (args .v)) (args .d) (lt-ltb 0 (args .v) (omega arith)))),
-    subst⁻¹ InPercent (c .entry .ensures) (itself _ (entry-at-most (start .pre .0 .shape) (c .before .row .ensures .1))))
+    let f = start .fits .d in (
+      c .entry .ensures
+          ∙ ap (λ (k : ℕ). pos (entry (column-in (args .column .now)) k)) ((simp toZ-ofZ at (c .before .row .ensures)) .0)
+          ∙ sym (ap pos (reached-entry _ (column-in (args .column .now)) (args .n) (pos (args .v)) (args .d) (lt-ltb 0 (args .v) (omega arith)))),
+      subst⁻¹ InPercent (c .entry .ensures) (itself _ (entry-at-most (start .pre .0 .shape) (c .before .row .ensures .1))),
+    )
 
 pub reached-spec : {M : Type 1} → statement M
 reached-spec = tie.close (tie.spec row-requires entry-requires returns returns-2)

@@ -24,10 +24,12 @@ returns c =
 returns-2 : tie.Need-returns-2
 returns-2 c =
     let args = c .before .before .before .before .args in
-    let f = c .before .before .before .before .fits .d in
-    (c .rest .ensures .0
-    ∙ ap (λ (e : ℤ). hundred-percent -ℤ e) ((simp toZ-ofZ at (c .before .before .reached .ensures)) .0)
-    ∙ sym (side-outside _ (column-in (args .column .now)) (args .n) (pos (args .v)) (args .d) (simp toZ-ofZ at (c .before .if1 .left))), c .rest .ensures .1)
+    let f = c .before .before .before .before .fits .d in (
+      c .rest .ensures .0
+          ∙ ap (λ (e : ℤ). hundred-percent -ℤ e) ((simp toZ-ofZ at (c .before .before .reached .ensures)) .0)
+          ∙ sym (side-outside _ (column-in (args .column .now)) (args .n) (pos (args .v)) (args .d) (simp toZ-ofZ at (c .before .if1 .left))),
+      c .rest .ensures .1,
+    )
 
 pub side-spec : {M : Type 1} → statement M
 side-spec = tie.close (tie.spec reached-requires rest-requires returns returns-2)

@@ -21,9 +21,11 @@ returns c =
     let start = c .before .before .before in
     let x = start .fits .x in
     let y = start .fits .y in
-    let d : SFits w64 (c .before .difference .result) = record { sfits = c .before .difference .ok } in
-    ((simp toZ-ofZ at (c .side .ensures)) .0
-    ∙ ap (side _ (column-in (start .args .column .now)) (start .args .n) (pos (start .args .v))) ((simp toZ-ofZ at (c .before .difference .ensures)) .0), c .side .ensures .1)
+    let d : SFits w64 (c .before .difference .result) = record { sfits = c .before .difference .ok } in (
+      (simp toZ-ofZ at (c .side .ensures)) .0
+          ∙ ap (side _ (column-in (start .args .column .now)) (start .args .n) (pos (start .args .v))) ((simp toZ-ofZ at (c .before .difference .ensures)) .0),
+      c .side .ensures .1,
+    )
 
 pub side-between-spec : {M : Type 1} → statement M
 side-between-spec = tie.close (tie.spec difference-requires side-requires returns)

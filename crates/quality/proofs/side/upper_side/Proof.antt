@@ -46,10 +46,12 @@ returns-2 c =
     let start = c .before .before .before .before .before .before .before in
     let p : SFits w64 (c .before .before .times .result) = record { sfits = c .before .before .times .ok } in
     let h : natAbs (start .args .a .t) ≤ most * 500000 = total-bound (start .pre .1) in
-    let t : SFits w64 (start .args .a .t) = fits-of w64 (omega arith) in
-    (rw (c .before .before .before .before .upper .given .1)
-    ((simp toZ-ofZ at (c .side-between .ensures)) .0
-    ∙ ap₂ (side _ (column-in (start .args .column .now)) (start .args .a .n)) (start .pre .2) (ap (λ (z : ℤ). z -ℤ start .args .a .t) (c .before .before .times .ensures .0))), c .side-between .ensures .1)
+    let t : SFits w64 (start .args .a .t) = fits-of w64 (omega arith) in (
+      rw (c .before .before .before .before .upper .given .1)
+          ((simp toZ-ofZ at (c .side-between .ensures)) .0
+          ∙ ap₂ (side _ (column-in (start .args .column .now)) (start .args .a .n)) (start .pre .2) (ap (λ (z : ℤ). z -ℤ start .args .a .t) (c .before .before .times .ensures .0))),
+      c .side-between .ensures .1,
+    )
 
 pub upper-side-spec : {M : Type 1} → statement M
 upper-side-spec =

@@ -13,7 +13,7 @@ use Rattle.rules.specs.declared.Totals.{Totals}
 use Rattle.rules.specs.declared.TotalsAnswer.{TotalsAnswer}
 use Rattle.rules.specs.declared.Refusal.{Refusal}
 use Rattle.rules.specs.declared.Percentages.{Percentages}
-use Rattle.rules.specs.Said.{refused, answers, Case, checked}
+use Rattle.rules.specs.Said.{refused, answers, checked}
 use Rattle.rules.specs.Lot.{Lot, lot-of, most}
 use Rattle.rules.specs.Table.{Found, table-106-1, entries}
 use Rattle.rules.specs.Percent.{Rule, totals}
@@ -89,15 +89,15 @@ lot-accepted lot e =
     }
 
 -- A lot whose totals are answered is not refused, and the totals are its own and in bounds, if its readings are as many as it says.
-pub record LotTotalled (meets : Lot → List Case) (lot : Lot) (a : Totals) : Type 0 where
-  pub unrefused : checked (meets lot) ≡ answers tt
+pub record LotTotalled (lot : Lot) (a : Totals) : Type 0 where
+  pub unrefused : checked (counted-meets lot) ≡ answers tt
   pub same : lot-totals lot ≡ a
   pub accepted : LotAccepted lot
   pub bounded : Bounded a
 
 pub lot-totalled :
     (lot : Lot) {t : TotalsAnswer} {a : Totals} → Counted lot →
-    totals-said t ≡ totalled counted-meets lot → t ≡ TotalsAnswer.Answers a → LotTotalled counted-meets lot a
+    totals-said t ≡ totalled counted-meets lot → t ≡ TotalsAnswer.Answers a → LotTotalled lot a
 unfolding totalled
 lot-totalled lot counted e h =
     let r = totals-answered (counted-meets lot) (lot-totals lot) e h in
@@ -120,7 +120,7 @@ lent-readings h = record { least = h .least; few = h .few; near = h .near }
 
 -- It is by the totals of the lot where these are answered,
 pub totalled-is-evaluated :
-    (rule : Rule) {lot : Lot} {a : Totals} → LotTotalled counted-meets lot a →
+    (rule : Rule) {lot : Lot} {a : Totals} → LotTotalled lot a →
     answers (percentages-of rule (entries (table-106-1 (a .n))) a (lot .upper) (lot .lower)) ≡ evaluated rule (column-for lot) lot
 unfolding evaluated evaluation-meets
 totalled-is-evaluated rule {lot} h =

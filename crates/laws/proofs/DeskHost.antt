@@ -1,12 +1,10 @@
--- What a host gives and is given, by computation: a limit and its presence, a lot's places in their order, each answer in plain numbers,
--- and the row with its doubles.
+-- What a host gives and is given, by computation: a limit and its presence, a lot's places in their order, each answer in plain
+-- numbers, and the numbers of refusal.
 use mathlib.Core.Path.{_≡_, refl, ap}
 use mathlib.Core.List.{List, [], _∷_}
 use Prim.Native.Nat.{ℕ, suc}
 use lib.Dec.{eqb·suc-zero}
 use lib.IntN.{ℤ, pos}
-use lib.ListN.{replicate}
-use lib.Ieee.{binary64, ofInt, div, ofBits}
 use Rattle.rules.specs.declared.Limit.the-variants.{Absent, At}
 use Rattle.rules.specs.declared.Verdict.the-variants.{Accepted, Rejected}
 use Rattle.rules.specs.declared.Refusal.{Refusal}
@@ -15,19 +13,14 @@ use Rattle.rules.specs.declared.host.HostRefusal.{HostRefusal}
 use Rattle.rules.specs.declared.host.HostLot.{HostLot}
 use Rattle.rules.specs.declared.host.HostPair.{HostPair}
 use Rattle.rules.specs.Units.{thousandths, hundredths, composite-of, cents}
-use Rattle.rules.specs.Said.{Said, refused, answers, ruled}
+use Rattle.rules.specs.Said.{Said, refused, answers}
 use Rattle.rules.specs.Lot.{Lot, lot-of, lot-in}
-use Rattle.rules.specs.Table.{rows, table-106-1}
-use Rattle.rules.specs.Percent.{sum, squares, spread, upper-distance, lower-distance, index-squared, midpoint-squared, admits, largest, nearest, side, upper-side, lower-side}
-use Rattle.rules.specs.Deviation.{deviation, first-from}
 use Rattle.rules.specs.Mixture.{density-pairs, mixture-limits}
-use Rattle.rules.specs.Record.{spelled, spell, fours, in-fours}
-use Rattle.rules.specs.Refusals.{number-of, any-out}
-use Rattle.rules.specs.Meets.{row-meets}
-use Rattle.rules.specs.Notebook.{lent-limit, lent-lot, row-of, refusal-asked, mean-asked, deviation-asked, pwl-asked}
-use Rattle.rules.specs.Entries.{percentages-of, read-says, read-leaves, beside, held, row-says}
+use Rattle.rules.specs.Refusals.{number-of}
+use Rattle.rules.specs.Notebook.{lent-limit}
+use Rattle.rules.specs.Entries.{read-says, read-leaves, beside, held}
 use Rattle.rules.specs.Host.{host-mean, host-deviation, host-percentages, host-payment, host-mixture-limits, held-lot, host-lot, host-read, host-written}
-use Rattle.laws.specs.Desk.{at}
+use Rattle.laws.specs.Desk.{at, asked}
 
 -- Presence 0 is absent and its number unread; any other is present.
 pub absent-is-unread : (y z : ℤ) → lent-limit y 0 ≡ lent-limit z 0
@@ -129,55 +122,16 @@ mixture-limits-are-given = (refl, refl)
 pub written-is-given : (host-written (refused Room) ≡ record { refusal = numbered 8; size = 0 }) × (host-written (answers 29) ≡ record { refusal = numbered 0; size = 29 })
 written-is-given = (refl, refl)
 
--- ---- the row
-
--- Document 01's voids lot, of which T is 41,600, s 825 and PWL 9,128: as doubles 4.16, 0.825 and 91.28, by their bits.
-pub voids-row :
-    row-of (pos 41600) 10 (pos 825) (pos 9128) ≡
-    record {
-      mean = ofBits binary64 4616369762039853220;
-      deviation = ofBits binary64 4605606158930437734;
-      pwl = ofBits binary64 4636123675905407058;
-    }
-unfolding row-of div ofInt ofBits
-voids-row = refl
-
--- Each double of a refused lot is 0.
-pub refused-row-is-zero :
-    (mean-asked (refused Count) ≡ ofBits binary64 0) × (deviation-asked (refused Count) ≡ ofBits binary64 0) × (pwl-asked (refused Count) ≡ ofBits binary64 0)
-unfolding ofBits
-refused-row-is-zero = (refl, refl, refl)
-
 -- Document 01's numbers of refusal, 0 for none.
-abbrev asked : Refusal → ℕ
-asked r = refusal-asked {A = ℕ} (refused r)
-
 pub refusal-is-asked :
-    (asked Size ≡ 1) ×
-    (asked Version ≡ 2) ×
-    (asked Flags ≡ 3) ×
-    (asked Count ≡ 4) ×
-    (asked Range ≡ 5) ×
-    (asked Unlimited ≡ 6) ×
-    (asked Crossed ≡ 7) ×
-    (asked Room ≡ 8) ×
-    (asked Number ≡ 9) ×
-    (refusal-asked {A = ℕ} (answers 7) ≡ 0)
+    (asked {A = ℕ} (refused Size) ≡ 1) ×
+    (asked {A = ℕ} (refused Version) ≡ 2) ×
+    (asked {A = ℕ} (refused Flags) ≡ 3) ×
+    (asked {A = ℕ} (refused Count) ≡ 4) ×
+    (asked {A = ℕ} (refused Range) ≡ 5) ×
+    (asked {A = ℕ} (refused Unlimited) ≡ 6) ×
+    (asked {A = ℕ} (refused Crossed) ≡ 7) ×
+    (asked {A = ℕ} (refused Room) ≡ 8) ×
+    (asked {A = ℕ} (refused Number) ≡ 9) ×
+    (asked {A = ℕ} (answers 7) ≡ 0)
 refusal-is-asked = (refl, refl, refl, refl, refl, refl, refl, refl, refl, refl)
-
--- D9 as bytes: of 0 and 1, with an upper limit of 1.
-pub d9-row : row-says (at 1) Absent (in-fours (pos 0 ∷ pos 1 ∷ [])) ≡ answers (row-of (pos 1) 2 (pos 1) (pos 7249))
-unfolding row-says row-meets lent-lot ruled in-fours spell spelled fours any-out sum squares spread upper-distance lower-distance index-squared midpoint-squared admits largest nearest side upper-side lower-side rows table-106-1 percentages-of deviation first-from
-d9-row = refl
-
--- A size that is not 4n for an allowed n is refusal 4, before any other.
-pub sizes-are-refused :
-    (refusal-asked (row-says Absent Absent []) ≡ 4) ×
-    (refusal-asked (row-says Absent Absent (replicate 4 0)) ≡ 4) ×
-    (refusal-asked (row-says Absent Absent (replicate 7 0)) ≡ 4) ×
-    (refusal-asked (row-says Absent Absent (replicate 9 0)) ≡ 4) ×
-    (refusal-asked (row-says Absent Absent (replicate 44 0)) ≡ 4) ×
-    (refusal-asked (row-says Absent Absent (replicate 8 0)) ≡ 6) ×
-    (refusal-asked (row-says Absent Absent (replicate 40 0)) ≡ 6)
-unfolding row-says row-meets lent-lot ruled fours spelled any-out
-sizes-are-refused = (refl, refl, refl, refl, refl, refl, refl)

@@ -11,9 +11,8 @@ use Rattle.rules.specs.Lot.{Lot, lot-of}
 use Rattle.rules.specs.Record.{spelled, spell, fours, in-fours, lot-of-record, head-of, record-of}
 use Rattle.rules.specs.Refusals.{any-out}
 use Rattle.rules.specs.Meets.{read-meets, write-meets}
-use Rattle.rules.specs.Notebook.{refusal-asked}
 use Rattle.rules.specs.Entries.{read-says, write-says}
-use Rattle.laws.specs.Desk.{at}
+use Rattle.laws.specs.Desk.{at, asked}
 
 abbrev d5 : Lot
 d5 = lot-of (at 21) Absent (pos 0 ∷ pos 0 ∷ pos 0 ∷ pos 80 ∷ [])
@@ -51,17 +50,17 @@ negative-is-written = refl
 -- "Numbers of refusal": D5's record cut, lengthened or with other bytes at the places that are named; and D5 with too little room or too few
 -- readings.
 pub each-refusal :
-    (refusal-asked (read-says (take 12 printed)) ≡ 1) ×
-    (refusal-asked (read-says (printed ++ (0 ∷ []))) ≡ 1) ×
-    (refusal-asked (read-says (set printed 2 0)) ≡ 2) ×
-    (refusal-asked (read-says (set printed 3 5)) ≡ 3) ×
-    (refusal-asked (read-says (set printed 3 2)) ≡ 3) ×
-    (refusal-asked (read-says (set printed 8 1)) ≡ 3) ×
-    (refusal-asked (read-says (set printed 12 5)) ≡ 4) ×
-    (refusal-asked (read-says (set printed 25 127)) ≡ 5) ×
-    (refusal-asked (read-says (set (set printed 3 0) 7 0)) ≡ 6) ×
-    (refusal-asked (read-says (set (set printed 3 3) 11 22)) ≡ 7) ×
-    (refusal-asked (write-says d5 (replicate 28 0)) ≡ 8) ×
-    (refusal-asked (write-says (lot-of (at 21) Absent (pos 0 ∷ [])) (replicate 28 0)) ≡ 4)
+    (asked (read-says (take 12 printed)) ≡ 1) ×
+    (asked (read-says (printed ++ (0 ∷ []))) ≡ 1) ×
+    (asked (read-says (set printed 2 0)) ≡ 2) ×
+    (asked (read-says (set printed 3 5)) ≡ 3) ×
+    (asked (read-says (set printed 3 2)) ≡ 3) ×
+    (asked (read-says (set printed 8 1)) ≡ 3) ×
+    (asked (read-says (set printed 12 5)) ≡ 4) ×
+    (asked (read-says (set printed 25 127)) ≡ 5) ×
+    (asked (read-says (set (set printed 3 0) 7 0)) ≡ 6) ×
+    (asked (read-says (set (set printed 3 3) 11 22)) ≡ 7) ×
+    (asked (write-says d5 (replicate 28 0)) ≡ 8) ×
+    (asked (write-says (lot-of (at 21) Absent (pos 0 ∷ [])) (replicate 28 0)) ≡ 4)
 unfolding read-says read-meets write-says write-meets ruled lot-of-record record-of head-of spelled spell fours in-fours any-out
 each-refusal = (refl, refl, refl, refl, refl, refl, refl, refl, refl, refl, refl, refl)

@@ -51,5 +51,6 @@ pub mod Returns
 pub mod RecordAnswers
 pub mod DeskRecord
 pub mod DeskHost
+pub mod DeskRow
 pub mod Deviation
 pub mod Desk

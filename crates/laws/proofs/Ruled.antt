@@ -124,7 +124,7 @@ module _ (cs : List Case) {o : Outcome} (e : outcome-said o ≡ checked cs) wher
   nothing-refused h = sym e ∙ ap outcome-said h
 
   pub outcome-answers : {A : Type 0} (a : A) → o ≡ Outcome.Answers → ruled cs a ≡ answers a
-  outcome-answers a h = ruled-given cs a ∙ ap (given a) (nothing-refused h)
+  outcome-answers a h = ruled-unrefused cs a (nothing-refused h)
 
   pub outcome-refused : {A : Type 0} (a : A) {r : Refusal} → o ≡ Outcome.Refused r → ruled cs a ≡ refused r
   outcome-refused a h = ruled-given cs a ∙ ap (given a) (sym e ∙ ap outcome-said h)

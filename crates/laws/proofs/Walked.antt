@@ -19,7 +19,7 @@ use Rattle.rules.specs.Said.{Said, refused, answers}
 use Rattle.rules.specs.Percent.{sum, squares}
 use Rattle.rules.specs.Refusals.{any-out}
 use Rattle.rules.specs.Answers.{totals-said}
-use Rattle.laws.specs.Totalled.{pass-says, walk-says}
+use Rattle.laws.specs.Totalled.{with-reading, pass-says, walk-says}
 use Rattle.laws.proofs.Ruled.{ruled-none, ruled-met, ruled-passed}
 use Rattle.laws.proofs.Bounds.{in-range-bound}
 
@@ -48,9 +48,6 @@ module _ (xs : List ℤ) (i : ℕ) (here : i < length xs) where
   abbrev x : ℤ
   x = getD xs i (pos 0)
 
-  abbrev more : Totals → Totals
-  more a = record { n = a .n; t = x +ℤ a .t; z = x *ℤ x +ℤ a .z }
-
   left : drop i xs ≡ x ∷ drop (suc i) xs
   left = drop-cons xs i (pos 0) here
 
@@ -63,20 +60,20 @@ module _ (xs : List ℤ) (i : ℕ) (here : i < length xs) where
   unfolding pass-says walk-says
   walk-refuses {a} {t} {r} w e h = by (in-range x) refl (sym e ∙ ap totals-said h)
     where
-      by : (b : Bool) → in-range x ≡ b → cond b (answers (more a)) (refused Range) ≡ refused r → (walk-says xs ≡ refused r) × (any-out xs ≡ true)
+      by : (b : Bool) → in-range x ≡ b → cond b (answers (with-reading a x)) (refused Range) ≡ refused r → (walk-says xs ≡ refused r) × (any-out xs ≡ true)
       by true inside f = absurd (let z : _≡_ {A = ℕ} 0 1 = cc in omega arith)
       by false outside f =
           let out : any-out xs ≡ true = w .near ∙ out-left ∙ ap (λ (b : Bool). not b || any-out (drop (suc i) xs)) outside in
           (ruled-met _ _ _ out ∙ f, out)
 
   -- and one in range is passed, and is in the totals.
-  passed-on : {a : Totals} → Walked xs i a → in-range x ≡ true → Walked xs (i + 1) (more a)
+  passed-on : {a : Totals} → Walked xs i a → in-range x ≡ true → Walked xs (i + 1) (with-reading a x)
   unfolding sum squares
   passed-on {a} w inside =
       let bound : natAbs x ≤ 500000 = in-range-bound x inside in
       let rest : List ℤ = drop (suc i) xs in
       let next : suc i ≡ i + 1 = omega arith in
-      subst (λ (k : ℕ). Walked xs k (more a)) next
+      subst (λ (k : ℕ). Walked xs k (with-reading a x)) next
       (record {
         passed = here;
         near = w .near ∙ out-left ∙ ap (λ (b : Bool). not b || any-out rest) inside;
@@ -99,7 +96,7 @@ module _ (xs : List ℤ) (i : ℕ) (here : i < length xs) where
       value (refused r) = b
       value (answers c) = c
 
-      by : (test : Bool) → in-range x ≡ test → cond test (answers (more a)) (refused Range) ≡ answers b → Walked xs (i + 1) b
+      by : (test : Bool) → in-range x ≡ test → cond test (answers (with-reading a x)) (refused Range) ≡ answers b → Walked xs (i + 1) b
       by true inside f = subst (Walked xs (i + 1)) (ap value f) (passed-on w inside)
       by false outside f = absurd (let z : _≡_ {A = ℕ} 0 1 = cc in omega arith)
 

@@ -15,6 +15,7 @@ use Rattle.rules.specs.Said.{Said, refused, answers}
 use Rattle.rules.specs.Lot.{lot-of}
 use Rattle.rules.specs.Percent.{totals, spread, upper-distance, index-squared, midpoint-squared}
 use Rattle.rules.specs.Entries.{evaluation-says, deviation-says}
+use Rattle.rules.specs.Host.{host-refusal}
 
 pub data Example : Type 0 where
   -- readings, upper and lower limit, and the PWL in hundredths
@@ -26,6 +27,10 @@ pub data Example : Type 0 where
 
 abbrev pub at : ℕ → Limit
 at z = At (thousandths (pos z))
+
+-- the number that a host is told
+abbrev pub asked : {A : Type 0} → Said A → ℕ
+asked said = host-refusal said .number
 
 abbrev pub Answered : (Percentages → Type 0) → Said Percentages → Type 0
 Answered P (refused r) = ⊥

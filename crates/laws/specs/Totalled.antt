@@ -17,9 +17,13 @@ use Rattle.rules.specs.Percent.{totals}
 use Rattle.rules.specs.Refusals.{out-of-range, any-out, range-case}
 use Rattle.rules.specs.Meets.{readings-meet, limits-meet}
 
--- One reading more, which is in range or else 5.
+-- One reading more; n is what it was.
+abbrev pub with-reading : Totals → ℤ → Totals
+with-reading a x = record { n = a .n; t = x +ℤ a .t; z = x *ℤ x +ℤ a .z }
+
+-- It is in range or else 5.
 unfoldable pub pass-says : Totals → ℤ → Said Totals
-pass-says a x = cond (in-range x) (answers (record { n = a .n; t = x +ℤ a .t; z = x *ℤ x +ℤ a .z })) (refused Range)
+pass-says a x = cond (in-range x) (answers (with-reading a x)) (refused Range)
 
 -- All readings, of which none is out of range or else 5;
 unfoldable pub walk-says : List ℤ → Said Totals

@@ -12,7 +12,6 @@ use Rattle.rules.specs.declared.Row.{Row}
 use Rattle.rules.specs.Said.{Said, refused, answers}
 use Rattle.rules.specs.Lot.{Lot}
 use Rattle.rules.specs.Record.{fours, limit-of}
-use Rattle.rules.specs.Refusals.{number-of}
 
 -- presence 0 is absent, its number unread; any other is present
 abbrev pub lent-limit : ℤ → ℕ → Limit
@@ -30,11 +29,6 @@ over z m = Ieee.div binary64 (Ieee.ofInt binary64 z) (Ieee.ofInt binary64 (pos m
 -- the mean T over 1000·n, the deviation s over 1000 and the percentage over 100
 unfoldable pub row-of : ℤ → ℕ → ℤ → ℤ → Row
 row-of t n s pwl = record { mean = over t (1000 * n); deviation = over s 1000; pwl = over pwl 100 }
-
--- the refusal's number, 0 for none
-abbrev pub refusal-asked : {A : Type 0} → Said A → ℕ
-refusal-asked (refused r) = number-of r
-refusal-asked (answers a) = 0
 
 -- a double, 0 of a refused lot
 abbrev pub double-asked : (Row → Float) → Said Row → Float

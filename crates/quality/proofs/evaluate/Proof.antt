@@ -4,7 +4,6 @@ use borrow.Author.Needs.{needs}
 use Rattle.rules.specs.declared.Percentages.{Percentages}
 use Rattle.rules.specs.Said.{Said, answers}
 use Rattle.rules.specs.Lot.{lot-of}
-use Rattle.rules.specs.Meets.{counted-meets}
 use Rattle.rules.specs.Entries.{evaluation-says}
 use Rattle.laws.proofs.Accepted.{LotTotalled, lot-totalled, totalled-is-evaluated, untotalled-is-refused}
 use Rattle.laws.proofs.Lots.{lot-of-counted}
@@ -23,7 +22,7 @@ enum-known-refusal c = search needs
 enum-known-a : tie.Need-enum-known-a
 enum-known-a c = search needs
 
-totalled : (c : tie.After-a) → LotTotalled counted-meets (lot-of (c .before .before .before .args .upper) (c .before .before .before .args .lower) (c .before .before .before .args .readings .now)) (c .a .given .0 .0)
+totalled : (c : tie.After-a) → LotTotalled (lot-of (c .before .before .before .args .upper) (c .before .before .before .args .lower) (c .before .before .before .args .readings .now)) (c .a .given .0 .0)
 totalled c =
     let args = c .before .before .before .args in
     lot-totalled _ (lot-of-counted (args .upper) (args .lower) (args .readings .now)) (c .before .before .lent .ensures) (c .a .given .1)

@@ -6,7 +6,6 @@ use Rattle.rules.specs.declared.HeldLot.{HeldLot}
 use Rattle.rules.specs.declared.Percentages.{Percentages}
 use Rattle.rules.specs.Said.{Said, answers}
 use Rattle.rules.specs.Lot.{most, lot-in}
-use Rattle.rules.specs.Meets.{counted-meets}
 use Rattle.rules.specs.Entries.{evaluation-says}
 use Rattle.laws.proofs.Accepted.{LotTotalled, lot-totalled, totalled-is-evaluated, untotalled-is-refused}
 use Rattle.laws.proofs.Lots.{lot-in-counted}
@@ -25,7 +24,7 @@ enum-known-refusal c = search needs
 enum-known-a : tie.Need-enum-known-a
 enum-known-a c = search needs
 
-totalled : (c : tie.After-a) → LotTotalled counted-meets (lot-in (c .before .before .before .args .lot)) (c .a .given .0 .0)
+totalled : (c : tie.After-a) → LotTotalled (lot-in (c .before .before .before .args .lot)) (c .a .given .0 .0)
 totalled c =
     let start = c .before .before .before in
     let lot : HeldLot = start .args .lot in

@@ -6,10 +6,10 @@ use Prim.Native.Nat.{ℕ, _+_, _≤_}
 use native.Mathlib.Nat.{mul-le-mul-left}
 use native.Mathlib.Omega.{arith}
 use lib.IntN.{ℤ, pos, negℤ, _+ℤ_, _-ℤ_, _*ℤ_}
-use lib.Signed.{_≤ℤ_, _<ℤ_, leZ, ltZ, leZ-yes, ltZ-yes, ltZ-no, clashℤ}
+use lib.Signed.{_≤ℤ_, _<ℤ_, ≤ℤ-refl, leZ, ltZ, leZ-yes, ltZ-yes, ltZ-no, clashℤ}
 use lib.Dec.{T, not-T}
 use lib.Ieee.Bits.{is-true, is-false}
-use Rattle.integers.proofs.Difference.{Diff, var, nat, diff-eq, diff-le, diff-lt, le-diff, lt-diff, le-read, arithℤ, ⊝_, _⊕_, _⊖_, _⊗_}
+use Rattle.integers.proofs.Difference.{Diff, var, nat, diff-eq, diff-le, diff-lt, le-diff, lt-diff, le-read, lt-read, arithℤ, ⊝_, _⊕_, _⊖_, _⊗_}
 
 -- The kit's lib.Signed has `≤ℤ-refl`, `<ℤ-irrefl`, `<ℤ-≤ℤ-trans` and `clashℤ`.
 pub ≤ℤ-trans : {x y z : ℤ} → x ≤ℤ y → y ≤ℤ z → x ≤ℤ z
@@ -53,6 +53,20 @@ neg-flips {x} {y} h = diff-le (⊝ var y) (⊝ var x) (omega arithℤ)
 
 pub *ℤ-mono-l : (n : ℕ) {x y : ℤ} → x ≤ℤ y → (pos n *ℤ x) ≤ℤ (pos n *ℤ y)
 *ℤ-mono-l n {x} {y} h = diff-le (nat n ⊗ var x) (nat n ⊗ var y) (omega (arith, mul-le-mul-left n (le-read h)))
+
+-- A factor above 0 can be taken off an order.
+pub *ℤ-cancel-≤ : (n : ℕ) {x y : ℤ} → 1 ≤ n → (x *ℤ pos n) ≤ℤ (y *ℤ pos n) → x ≤ℤ y
+*ℤ-cancel-≤ n {x} {y} some h =
+    let low = le-diff (var x ⊗ nat n) (var y ⊗ nat n) h in
+    ⊎-elim (λ k. k) (λ k. absurd (omega (arith, low, mul-le-mul-left n (lt-read k)))) (≤ℤ-total x y)
+
+pub *ℤ-cancel-< : (n : ℕ) {x y : ℤ} → (x *ℤ pos n) <ℤ (y *ℤ pos n) → x <ℤ y
+*ℤ-cancel-< n {x} {y} h =
+    let low = lt-diff (var x ⊗ nat n) (var y ⊗ nat n) h in
+    ⊎-elim (λ k. absurd (omega (arith, low, mul-le-mul-left n (le-read k)))) (λ k. k) (≤ℤ-total y x)
+
+pub *ℤ-cancel : (n : ℕ) {x y : ℤ} → 1 ≤ n → x *ℤ pos n ≡ y *ℤ pos n → x ≡ y
+*ℤ-cancel n {x} {y} some e = ≤ℤ-antisym (*ℤ-cancel-≤ n some (subst (λ (z : ℤ). (x *ℤ pos n) ≤ℤ z) e (≤ℤ-refl _))) (*ℤ-cancel-≤ n some (subst (λ (z : ℤ). z ≤ℤ (x *ℤ pos n)) e (≤ℤ-refl _)))
 
 pub pos-mono : {m n : ℕ} → m ≤ n → pos m ≤ℤ pos n
 pos-mono {m} {n} h = diff-le (nat m) (nat n) (omega arith)

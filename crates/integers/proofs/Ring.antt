@@ -1,7 +1,7 @@
 -- Identities of the ring of integers, by certificates. The kit's lib.IntN has the group's (`+ℤ-invr x` is x -ℤ x ≡ pos 0) and `*ℤ-comm`.
-use mathlib.Core.Path.{_≡_}
+use mathlib.Core.Path.{_≡_, sym, ap, _∙_}
 use native.Mathlib.Omega.{arith}
-use lib.IntN.{ℤ, negℤ, _+ℤ_, _-ℤ_, _*ℤ_}
+use lib.IntN.{ℤ, negℤ, _+ℤ_, _-ℤ_, _*ℤ_, *ℤ-comm}
 use Rattle.integers.proofs.Difference.{var, diff-eq, ⊝_, _⊕_, _⊖_, _⊗_}
 
 pub *ℤ-distrib-l : (x y z : ℤ) → x *ℤ (y +ℤ z) ≡ x *ℤ y +ℤ x *ℤ z
@@ -34,6 +34,10 @@ neg--ℤ x y = diff-eq (⊝ (var x ⊖ var y)) (var y ⊖ var x) (omega arith)
 pub neg-diff-neg : (x y : ℤ) → negℤ x -ℤ negℤ y ≡ y -ℤ x
 neg-diff-neg x y = diff-eq (⊝ var x ⊖ ⊝ var y) (var y ⊖ var x) (omega arith)
 
--- The two inner terms of a sum of sums change places.
+-- The two inner terms of a sum of sums change places, and the two inner factors of a product of products.
 pub +ℤ-swap : (a b c d : ℤ) → (a +ℤ b) +ℤ (c +ℤ d) ≡ (a +ℤ c) +ℤ (b +ℤ d)
 +ℤ-swap a b c d = diff-eq (var a ⊕ var b ⊕ (var c ⊕ var d)) (var a ⊕ var c ⊕ (var b ⊕ var d)) (omega arith)
+
+pub *ℤ-swap : (a b c d : ℤ) → (a *ℤ b) *ℤ (c *ℤ d) ≡ (a *ℤ c) *ℤ (b *ℤ d)
+*ℤ-swap a b c d =
+    *ℤ-assoc a b (c *ℤ d) ∙ ap (λ (x : ℤ). a *ℤ x) (sym (*ℤ-assoc b c d) ∙ ap (λ (x : ℤ). x *ℤ d) (*ℤ-comm b c) ∙ *ℤ-assoc c b d) ∙ sym (*ℤ-assoc a c (b *ℤ d))

@@ -1,13 +1,15 @@
 -- Squares of integers, and of natural numbers.
 use mathlib.Core.Path.{_≡_, refl, ap}
+use mathlib.Core.Logic.{_↔_, ⊎-elim}
 use Prim.Native.Nat.{ℕ, zero, suc, _*_, _≤_, _<_, zero-le}
 use native.Mathlib.Nat.{mul-le-mul, lt-of-not-le}
 use native.Mathlib.Omega.{arith}
 use lib.IntN.{ℤ, pos, negsuc, negℤ, natAbs, _+ℤ_, _-ℤ_, _*ℤ_}
-use lib.Signed.{_≤ℤ_}
-use Rattle.integers.proofs.Difference.{var, nat, diff-eq, _⊕_, _⊖_, _⊗_}
+use lib.Signed.{_≤ℤ_, _<ℤ_, clashℤ}
+use Rattle.integers.proofs.Difference.{var, nat, diff-eq, diff-le, diff-lt, arithℤ, ⊝_, _⊕_, _⊖_, _⊗_}
 use Rattle.integers.proofs.Ring.{neg-*ℤ-neg}
-use Rattle.integers.proofs.Order.{pos-mono}
+use Rattle.integers.proofs.Order.{≤ℤ-total, neg-flips, pos-mono}
+use Rattle.integers.proofs.Magnitude.{natAbs-mul}
 
 unfoldable pub square : ℤ → ℤ
 square z = z *ℤ z
@@ -42,3 +44,43 @@ square-diff x y = diff-eq ((var x ⊖ var y) ⊗ (var x ⊖ var y)) (var x ⊗ v
 -- Of two natural numbers the one with the smaller square is smaller. (That squares keep the order is the kit's `mul-le-mul h h`.)
 pub root-unique : (a b : ℕ) → a * a < b * b → a < b
 root-unique a b h = lt-of-not-le (λ k. omega (arith, mul-le-mul k k))
+
+-- ---- with the sign
+
+-- z·|z|
+unfoldable pub signed : ℤ → ℤ
+signed z = z *ℤ pos (natAbs z)
+
+signed-mono : {x y : ℤ} → x ≤ℤ y → signed x ≤ℤ signed y
+unfolding signed
+signed-mono {x = pos a} {y = pos b} h =
+    let more : a ≤ b = omega arithℤ in
+    pos-mono (mul-le-mul more more)
+signed-mono {x = pos a} {y = negsuc b} h = absurd (h .le)
+signed-mono {x = negsuc a} {y = pos b} h = diff-le (⊝ nat (suc a * suc a)) (nat (b * b)) (omega arith)
+signed-mono {x = negsuc a} {y = negsuc b} h =
+    let more : suc b ≤ suc a = omega arithℤ in
+    neg-flips (pos-mono (mul-le-mul more more))
+
+signed-strict : {x y : ℤ} → x <ℤ y → signed x <ℤ signed y
+unfolding signed
+signed-strict {x = pos a} {y = pos b} h =
+    let more : suc a ≤ b = omega arithℤ in
+    diff-lt (nat (a * a)) (nat (b * b)) (omega (arith, mul-le-mul more more))
+signed-strict {x = pos a} {y = negsuc b} h = absurd (h .lt)
+signed-strict {x = negsuc a} {y = pos b} h = diff-lt (⊝ nat (suc a * suc a)) (nat (b * b)) (omega arith)
+signed-strict {x = negsuc a} {y = negsuc b} h =
+    let more : suc (suc b) ≤ suc a = omega arithℤ in
+    diff-lt (⊝ nat (suc a * suc a)) (⊝ nat (suc b * suc b)) (omega (arith, mul-le-mul more more))
+
+-- Squares with their signs are in the order of their numbers.
+pub signed-≤ : (x y : ℤ) → (x ≤ℤ y) ↔ (signed x ≤ℤ signed y)
+signed-≤ x y = (signed-mono, λ h. ⊎-elim (λ k. k) (λ k. absurd (clashℤ (signed-strict k) h)) (≤ℤ-total x y))
+
+pub signed-< : (x y : ℤ) → (x <ℤ y) ↔ (signed x <ℤ signed y)
+signed-< x y = (signed-strict, λ h. ⊎-elim (λ k. absurd (clashℤ h (signed-mono k))) (λ k. k) (≤ℤ-total y x))
+
+pub signed-scaled : (z : ℤ) (n : ℕ) → signed (z *ℤ pos n) ≡ signed z *ℤ pos (n * n)
+unfolding signed
+signed-scaled z n =
+    rw (natAbs-mul z (pos n)) (diff-eq (var z ⊗ nat n ⊗ nat (natAbs z * n)) (var z ⊗ nat (natAbs z) ⊗ nat (n * n)) (omega arith))

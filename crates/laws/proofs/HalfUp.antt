@@ -7,7 +7,7 @@ use lib.IntN.{ℤ}
 use lib.Signed.{_≤ℤ_}
 use Rattle.integers.proofs.Difference.{var, nat, le-diff, lt-diff, lt-read, _⊕_, _⊗_}
 use Rattle.integers.proofs.Order.{≤ℤ-total, ≤ℤ-antisym}
-use Rattle.laws.specs.Published.{Ratio, HalfUp}
+use Rattle.laws.specs.Ratio.{Ratio, HalfUp}
 
 not-above : {x : Ratio} {y z : ℤ} → HalfUp x y → HalfUp x z → y ≤ℤ z
 not-above {x} {y} {z} h k =

@@ -1,4 +1,7 @@
 pub mod Lists
+pub mod Ratio
+pub mod Value
+pub mod Root
 pub mod Each
 pub mod Search
 pub mod Table
@@ -16,11 +19,15 @@ pub mod Walked
 pub mod Accepted
 pub mod Largest
 pub mod Row
+pub mod NearestRow
+pub mod PublishedIndex
+pub mod PublishedRow
 pub mod Nearest
 pub mod Side
 pub mod Distance
 pub mod NoClamp
 pub mod OneLimit
+pub mod AsPublished
 pub mod Wider
 pub mod TurnedTotals
 pub mod Turned

@@ -5,7 +5,8 @@ use lib.IntN.{ℤ, pos, negsuc}
 use lib.Signed.{_≤ℤ_}
 use Rattle.integers.proofs.Difference.{var, nat, diff-eq, diff-le, diff-lt, _⊕_, _⊗_}
 use Rattle.rules.specs.Pay.{factor, weighted, composite, final-pay}
-use Rattle.laws.specs.Published.{ratio, times, Same, HalfUp, published-factor, published-composite, published-pay}
+use Rattle.laws.specs.Ratio.{ratio, times, Same, HalfUp}
+use Rattle.laws.specs.Published.{published-factor, published-composite, published-pay}
 
 -- The factor is 53 + ½ PWL exactly, in 200ths of a percent.
 pub factor-is-published : (pwl : ℤ) → Same (ratio (factor pwl) 200) (published-factor (ratio pwl 100))

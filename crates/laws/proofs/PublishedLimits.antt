@@ -4,7 +4,7 @@ use native.Mathlib.Omega.{arith}
 use lib.IntN.{ℤ, pos}
 use Rattle.integers.proofs.Difference.{var, nat, diff-eq, _⊕_, _⊖_, _⊗_, ⊝_}
 use Rattle.rules.specs.Mixture.{vma-pair, voids-pair, density-pairs, mixture-limits}
-use Rattle.laws.specs.Published.{ratio}
+use Rattle.laws.specs.Ratio.{ratio}
 use Rattle.laws.specs.PublishedLimits.{As, printed-vma, printed-voids, printed-4-75, printed-19-0, printed-sma, printed-others}
 use Rattle.laws.proofs.Bounds.{below, above}
 

@@ -11,10 +11,7 @@ use Rattle.integers.proofs.Difference.{var, nat, diff-eq, eq-diff, arithℤ, _�
 use Rattle.integers.proofs.Order.{pos-mono}
 use Rattle.integers.proofs.Square.{square, square-nat, square-zero}
 use Rattle.rules.specs.Percent.{sum, squares, totals, spread}
-
--- Any two readings are equal.
-abbrev pub AllEqual : List ℤ → Type 0
-AllEqual xs = (x y : ℤ) → List·Memᴰ x xs → List·Memᴰ y xs → x ≡ y
+use Rattle.laws.specs.AllEqual.{AllEqual}
 
 -- ---- squared differences, as natural numbers
 

@@ -11,8 +11,14 @@ pub mod Turned
 pub mod Moved
 pub mod Paid
 pub mod Payable
+pub mod Ratio
+pub mod Root
 pub mod Published
 pub mod PublishedLimits
+pub mod AllEqual
+pub mod PublishedIndex
+pub mod NearestRow
+pub mod AsPublished
 pub mod Settled
 pub mod InReach
 pub mod Taken

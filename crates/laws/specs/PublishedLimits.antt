@@ -1,7 +1,7 @@
 -- Document 000's Table 1, as it prints it: in percent, with its decimals.
 use lib.IntN.{pos, negℤ}
 use Rattle.rules.specs.declared.Limits.{Limits}
-use Rattle.laws.specs.Published.{Ratio, ratio, plus, Same}
+use Rattle.laws.specs.Ratio.{Ratio, ratio, plus, Same}
 
 -- LL and UL
 pub record Printed : Type 0 where

@@ -7,7 +7,8 @@ use lib.Signed.{_<ℤ_}
 use Rattle.rules.specs.declared.Verdict.{Verdict}
 use Rattle.rules.specs.declared.Verdict.the-variants.{Rejected}
 use Rattle.rules.specs.declared.Payment.{Payment}
-use Rattle.laws.specs.Published.{ratio, times, HalfUp, published-composite, published-pay}
+use Rattle.laws.specs.Ratio.{ratio, times, HalfUp}
+use Rattle.laws.specs.Published.{published-composite, published-pay}
 
 -- rejected exactly when it is so
 abbrev pub RejectedWhen : Type 0 → Verdict → Type 0

@@ -1,0 +1,85 @@
+-- The row of document 01's squared rule is the row of the table that is nearest the published index, for any readings not all equal.
+use mathlib.Core.Path.{_≡_, refl, sym, _∙_, subst}
+use mathlib.Core.Logic.{_⊎_, inl, inr, ⊎-elim, _↔_}
+use mathlib.Core.List.{List}
+use Prim.Native.Nat.{ℕ, zero, suc, _+_, _-_, _*_, _≤_, _<_, zero-le}
+use native.Mathlib.Nat.{mul-pos}
+use native.Mathlib.Omega.{arith}
+use lib.IntN.{ℤ, pos, natAbs, _-ℤ_, _*ℤ_}
+use lib.ListN.{length}
+use lib.Signed.{_≤ℤ_, _<ℤ_}
+use Rattle.integers.proofs.Difference.{var, nat, diff-eq, diff-le, diff-lt, arithℤ, le-read, lt-read, ⊝_, _⊖_, _⊗_}
+use Rattle.integers.proofs.Order.{<ℤ→≤ℤ}
+use Rattle.integers.proofs.Magnitude.{natAbs-parts, natAbs-pos}
+use Rattle.integers.proofs.Square.{square, square-nat}
+use Rattle.rules.specs.Table.{last-row}
+use Rattle.rules.specs.Percent.{totals, spread, nearest}
+use Rattle.laws.specs.Ratio.{Ratio, ratio, Is, AtMost, Less}
+use Rattle.laws.specs.Root.{signed-square, Root, magnitude}
+use Rattle.laws.specs.PublishedIndex.{published-index}
+use Rattle.laws.specs.NearestRow.{BetweenMidpoints, NearestRow}
+use Rattle.laws.proofs.Value.{is-above, is-below}
+use Rattle.laws.proofs.PublishedIndex.{index-squared-is}
+use Rattle.laws.proofs.Row.{Encloses, row-exactly-when-enclosing}
+use Rattle.laws.proofs.NearestRow.{enclosing-is-nearest, nearest-determined}
+
+-- ---- one midpoint, squared, beside the index: e is D², m is n − 1
+
+midpoint-up-to :
+    (n w m e k : ℕ) → (k ≡ 0) ⊎ ((pos ((2 * k - 1) * (2 * k - 1) * n) *ℤ pos w) ≤ℤ (pos (1600 * m) *ℤ pos e)) →
+    AtMost (signed-square (ratio (pos (2 * k) -ℤ pos 1) 40)) (ratio (pos e *ℤ pos m) (n * w))
+midpoint-up-to n w m e zero h = record { order = diff-le (⊝ nat 1 ⊗ nat (n * w)) (nat (e * m * 1600)) (omega arith) }
+midpoint-up-to n w m e (suc j) h =
+    let o : ℕ = 2 * suc j - 1 in
+    let low : (pos (o * o * n) *ℤ pos w) ≤ℤ (pos (1600 * m) *ℤ pos e) = ⊎-elim (λ z. absurd (omega arith)) (λ l. l) h in
+    subst (λ (z : ℤ). AtMost (signed-square (ratio z 40)) (ratio (pos e *ℤ pos m) (n * w))) (diff-eq (nat o) (nat (2 * suc j) ⊖ nat 1) (omega arith))
+    (record { order = diff-le (nat (o * o * (n * w))) (nat (e * m * 1600)) (omega (arith, le-read low)) })
+
+midpoint-above :
+    (n w m e k : ℕ) → (pos (1600 * m) *ℤ pos e) <ℤ (pos ((2 * k + 1) * (2 * k + 1) * n) *ℤ pos w) →
+    Less (ratio (pos e *ℤ pos m) (n * w)) (signed-square (ratio (pos (2 * k + 1)) 40))
+midpoint-above n w m e k h = record { order = diff-lt (nat _) (nat _) (omega arithℤ) }
+
+-- ---- the row
+
+-- Of a limit that lies D/n beyond the mean, for V above 0.
+module _ (xs : List ℤ) (some : 2 ≤ length xs) (above : pos 0 <ℤ spread (totals (length xs) xs)) (beyond : Ratio) (d : ℤ) (is : Is beyond d (length xs)) where
+  abbrev n : ℕ
+  n = length xs
+
+  abbrev v : ℤ
+  v = spread (totals (length xs) xs)
+
+  abbrev q : Root
+  q = magnitude (published-index beyond xs)
+
+  -- n·V and D² as natural numbers
+  under : 1 ≤ n * natAbs v
+  under = mul-pos {m = n} (omega arith) (omega (arith, natAbs-parts v, lt-read above))
+
+  squared : Is (q .square) (pos (natAbs d * natAbs d) *ℤ pos (n - 1)) (n * natAbs v)
+  unfolding square
+  squared = rw (square-nat d) at (index-squared-is xs some above beyond d is)
+
+  encloses : (k : ℕ) → nearest n v d ≡ k → Encloses n (pos (natAbs v)) d k
+  encloses k e = rw (natAbs-pos (<ℤ→≤ℤ above)) (row-exactly-when-enclosing n v d (<ℤ→≤ℤ above) k .0 e)
+
+  pub row-is-between-midpoints : (k : ℕ) → nearest n v d ≡ k → BetweenMidpoints q k
+  unfolding square
+  row-is-between-midpoints k e =
+      let here = encloses k e in
+      record {
+        in-table = here .row;
+        from-below = record { squares = is-above under squared (midpoint-up-to n (natAbs v) (n - 1) (natAbs d * natAbs d) k (rw (square-nat d) at (here .from-below))) };
+        before-above = λ low. record { squares = is-below under squared (midpoint-above n (natAbs v) (n - 1) (natAbs d * natAbs d) k (rw (square-nat d) at (here .before-above low))) };
+      }
+
+  -- It is the nearest, and no other is.
+  pub row-is-nearest : (k : ℕ) → (nearest n v d ≡ k) ↔ NearestRow q k
+  row-is-nearest k = (
+    found k,
+    λ h. nearest-determined (found (nearest n v d) refl) h,
+  )
+    where
+      found : (k : ℕ) → nearest n v d ≡ k → NearestRow q k
+      found k e = enclosing-is-nearest q (squared .proper) k (row-is-between-midpoints k e)

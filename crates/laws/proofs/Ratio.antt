@@ -1,0 +1,43 @@
+-- Fractions: their order, and the values of sums, differences, products and quotients.
+use mathlib.Core.Path.{_≡_, ap, ap₂, subst}
+use mathlib.Core.List.{List, [], _∷_, map}
+use Prim.Native.Nat.{ℕ, _*_, _≤_}
+use native.Mathlib.Nat.{le-refl, mul-le-mul, mul-le-mul-left, mul-le-mul-right}
+use native.Mathlib.Omega.{arith}
+use lib.IntN.{ℤ, pos, negsuc, natAbs, _+ℤ_, _-ℤ_, _*ℤ_}
+use lib.Signed.{_≤ℤ_, _<ℤ_, ≤ℤ-refl}
+use Rattle.integers.proofs.Difference.{var, nat, diff-eq, eq-diff, diff-le, le-diff, diff-lt, lt-diff, lt-read, _⊕_, _⊖_, _⊗_}
+use Rattle.integers.proofs.Order.{*ℤ-cancel-≤, *ℤ-cancel-<}
+use Rattle.rules.specs.Percent.{sum}
+use Rattle.laws.specs.Ratio.{Ratio, ratio, whole, plus, minus, times, shared, quotient, Same, AtMost, Less}
+use Rattle.laws.specs.PublishedIndex.{total}
+
+-- ---- order
+
+module _ {x y z : Ratio} where
+  -- a ≤ b ≤ c, times what is under the third of each two
+  pub at-most-trans : 1 ≤ y .under → AtMost x y → AtMost y z → AtMost x z
+  at-most-trans some h k =
+      let first = le-diff (var (x .top) ⊗ nat (y .under)) (var (y .top) ⊗ nat (x .under)) (h .order) in
+      let second = le-diff (var (y .top) ⊗ nat (z .under)) (var (z .top) ⊗ nat (y .under)) (k .order) in
+      record {
+        order =
+            *ℤ-cancel-≤ (y .under) some
+            (diff-le (var (x .top) ⊗ nat (z .under) ⊗ nat (y .under)) (var (z .top) ⊗ nat (x .under) ⊗ nat (y .under))
+            (omega (arith, mul-le-mul-right (z .under) first, mul-le-mul-right (x .under) second)));
+      }
+
+  pub at-most-less : 1 ≤ x .under → AtMost x y → Less y z → Less x z
+  at-most-less some h k =
+      let first = le-diff (var (x .top) ⊗ nat (y .under)) (var (y .top) ⊗ nat (x .under)) (h .order) in
+      let second = lt-diff (var (y .top) ⊗ nat (z .under)) (var (z .top) ⊗ nat (y .under)) (k .order) in
+      record {
+        order =
+            *ℤ-cancel-< (y .under)
+            (diff-lt (var (x .top) ⊗ nat (z .under) ⊗ nat (y .under)) (var (z .top) ⊗ nat (x .under) ⊗ nat (y .under))
+            (omega (arith, mul-le-mul-right (z .under) first, mul-le-mul-right (x .under) second)));
+      }
+
+-- Of one value, neither is above the other.
+pub same-at-most : (x y : Ratio) → Same x y → AtMost x y
+same-at-most x y e = record { order = subst (λ (z : ℤ). (x .top *ℤ pos (y .under)) ≤ℤ z) e (≤ℤ-refl _) }

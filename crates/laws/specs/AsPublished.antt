@@ -1,0 +1,44 @@
+-- Demand 2 of an evaluation, in the words of documents 01 and 004: of readings in thousandths, limits, and the table's column for their count.
+use mathlib.Core.Path.{_≡_}
+use mathlib.Core.List.{List}
+use Prim.Native.Nat.{ℕ}
+use lib.IntN.{ℤ, pos, _+ℤ_, _-ℤ_}
+use lib.Signed.{_≤ℤ_, _<ℤ_}
+use Rattle.rules.specs.declared.Limit.{Limit}
+use Rattle.rules.specs.declared.Limit.the-variants.{Absent, At}
+use Rattle.rules.specs.declared.Percentages.{Percentages}
+use Rattle.rules.specs.Table.{entry}
+use Rattle.laws.specs.Ratio.{Ratio}
+use Rattle.laws.specs.Root.{Root, BelowZero, magnitude}
+use Rattle.laws.specs.AllEqual.{AllEqual}
+use Rattle.laws.specs.PublishedIndex.{upper-beyond, lower-beyond, published-index}
+use Rattle.laws.specs.NearestRow.{NearestRow}
+
+-- The column's entry at the row nearest the index q, and for q below zero 100 percent less it.
+pub record LookedUp (column : List ℕ) (q : Root) (side : ℤ) : Type 0 where
+  pub row : ℕ
+  pub nearest : NearestRow (magnitude q) row
+  pub inside : (BelowZero q → ⊥) → side ≡ pos (entry column row)
+  pub outside : BelowZero q → side ≡ pos 10000 -ℤ pos (entry column row)
+
+-- A side whose limit lies so far beyond the mean: looked up by its index, unless all readings are equal. Those have no index; all or nothing
+-- of them is within the limit.
+pub record SideAsPublished (column : List ℕ) (beyond : Ratio) (xs : List ℤ) (side : ℤ) : Type 0 where
+  pub by-the-table : (AllEqual xs → ⊥) → LookedUp column (published-index beyond xs) side
+  pub equal-within : AllEqual xs → pos 0 ≤ℤ beyond .top → side ≡ pos 10000
+  pub equal-beyond : AllEqual xs → beyond .top <ℤ pos 0 → side ≡ pos 0
+
+-- An absent limit's side is 100 percent.
+abbrev pub UpperAsPublished : List ℕ → Limit → List ℤ → ℤ → Type 0
+UpperAsPublished column Absent xs side = side ≡ pos 10000
+UpperAsPublished column (At u) xs side = SideAsPublished column (upper-beyond (u .0) xs) xs side
+
+abbrev pub LowerAsPublished : List ℕ → Limit → List ℤ → ℤ → Type 0
+LowerAsPublished column Absent xs side = side ≡ pos 10000
+LowerAsPublished column (At l) xs side = SideAsPublished column (lower-beyond (l .0) xs) xs side
+
+-- (5) PWL = (P_U + P_L) − 100
+pub record AsPublished (column : List ℕ) (upper lower : Limit) (xs : List ℤ) (p : Percentages) : Type 0 where
+  pub upper-side : UpperAsPublished column upper xs (p .upper .0)
+  pub lower-side : LowerAsPublished column lower xs (p .lower .0)
+  pub pwl : p .pwl .0 ≡ (p .upper .0 +ℤ p .lower .0) -ℤ pos 10000

@@ -1,0 +1,35 @@
+-- The row of the table that is nearest an index, by document 004's section 106.03 K and by distances.
+use Prim.Native.Nat.{ℕ, _+_, _*_, _≤_, _<_}
+use lib.IntN.{pos, _-ℤ_}
+use Rattle.rules.specs.Table.{last-row}
+use Rattle.laws.specs.Ratio.{Ratio, ratio, plus, minus}
+use Rattle.laws.specs.Root.{Root, UpTo, RootUpTo, RootBelow}
+
+-- Row k stands for an index of k/20.
+abbrev pub row-index : ℕ → Ratio
+row-index k = ratio (pos k) 20
+
+-- ---- by midpoints
+
+-- The midpoints below and above row k, (2k − 1)/40 and (2k + 1)/40, enclose an index q of 0 or more: at the lower one it has come to row k, at
+-- the upper one to the next. The last row has none above it.
+pub record BetweenMidpoints (q : Root) (k : ℕ) : Type 0 where
+  pub in-table : k ≤ last-row
+  pub from-below : UpTo (ratio (pos (2 * k) -ℤ pos 1) 40) q
+  pub before-above : k < last-row → RootBelow q (ratio (pos (2 * k + 1)) 40)
+
+-- ---- by distances
+
+-- The index lies within a distance d of row k's.
+abbrev pub Within : Ratio → Root → ℕ → Type 0
+Within d q k = UpTo (minus (row-index k) d) q × RootUpTo q (plus (row-index k) d)
+
+-- Row k is as near as row j: within whatever distance the index lies of row j's, it lies of row k's.
+abbrev pub AsNear : Root → ℕ → ℕ → Type 0
+AsNear q k j = (d : Ratio) → 1 ≤ d .under → Within d q j → Within d q k
+
+-- No row of the table is nearer than row k, and none that is as near is greater: a tie goes away from zero.
+pub record NearestRow (q : Root) (k : ℕ) : Type 0 where
+  pub in-table : k ≤ last-row
+  pub none-nearer : (j : ℕ) → j ≤ last-row → AsNear q k j
+  pub none-greater : (j : ℕ) → j ≤ last-row → AsNear q j k → j ≤ k

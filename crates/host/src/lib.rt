@@ -9,6 +9,7 @@ use rules::MeanAnswer;
 use rules::MixtureAnswer;
 use rules::PayAnswer;
 use rules::Refusal;
+use rules::RowAnswer;
 use rules::Thousandths;
 use rules::Verdict;
 use rules::WriteAnswer;
@@ -19,11 +20,12 @@ use rules::host::HostPair;
 use rules::host::HostPayment;
 use rules::host::HostPercentages;
 use rules::host::HostRefusal;
+use rules::host::HostRow;
 use rules::host::HostWritten;
 ghost use mathlib.Core.Path.{_≡_};
 ghost use Rattle.rules.specs.Notebook.{lent-limit};
-ghost use Rattle.rules.specs.Answers.{mean-said, deviation-said, evaluation-said, pay-said, mixture-said, write-said};
-ghost use Rattle.rules.specs.Host.{refusal-part, host-mean, host-deviation, host-percentages, verdict-number, host-payment, host-pair, host-mixture-limits, host-written};
+ghost use Rattle.rules.specs.Answers.{mean-said, deviation-said, evaluation-said, pay-said, mixture-said, write-said, row-said};
+ghost use Rattle.rules.specs.Host.{refusal-part, host-mean, host-deviation, host-percentages, verdict-number, host-payment, host-pair, host-mixture-limits, host-written, host-row};
 
 // The part with which every answer begins: of what is not refused,
 pub const UNREFUSED: HostRefusal = HostRefusal { number: 0 };
@@ -177,6 +179,25 @@ pub fn written(answer: WriteAnswer) -> HostWritten
         WriteAnswer::Answers(size) => HostWritten {
             refusal: UNREFUSED,
             size: size,
+        },
+    }
+}
+
+pub fn row(answer: RowAnswer) -> HostRow
+    ensures { λ r. ⌜ r ≡ host-row (row-said answer) ⌝ }
+{
+    match answer {
+        RowAnswer::Refused(refusal) => HostRow {
+            refusal: refused(refusal),
+            mean: 0.0,
+            deviation: 0.0,
+            pwl: 0.0,
+        },
+        RowAnswer::Answers(row) => HostRow {
+            refusal: UNREFUSED,
+            mean: row.mean,
+            deviation: row.deviation,
+            pwl: row.pwl,
         },
     }
 }

@@ -2,16 +2,17 @@
 use mathlib.Core.Path.{_≡_, refl, subst⁻¹}
 use mathlib.Core.Bool.{true, false}
 use Prim.Native.Nat.{ℕ, zero, suc, _+_, _-_, _*_, _≤_, _<_, zero-le}
-use native.Mathlib.Nat.{le-refl, le-trans, mul-le-mul, mul-le-mul-left, zero-add}
+use native.Mathlib.Nat.{le-refl, le-trans, mul-le-mul, mul-le-mul-left}
 use native.Mathlib.Decide.{decLe}
 use native.Mathlib.Omega.{arith}
 use borrow.Author.Tests.{lt-ltb, ltb-false, ne-eqb}
 use lib.Dec.{T, leb→le, le→leb, ltb→lt, eqb·suc-zero}
+use lib.Ieee.Bits.{is-true}
 use lib.Ieee.Fits.{and-i, and-l, and-r}
 use lib.IntN.{pos}
-use Rattle.rules.specs.Deviation.{before-midpoint-above, from-midpoint-below, is-deviation, deviation}
+use Rattle.rules.specs.Deviation.{before-midpoint-above, from-midpoint-below, is-deviation, first-from, deviation}
 use Rattle.laws.specs.Bounds.{SpreadInBounds}
-use Rattle.laws.proofs.Search.{first-passes, none-before}
+use Rattle.laws.proofs.Search.{first-at-most, first-passes, none-before}
 
 -- n·(n−1) times the square of an odd number that is not larger is not larger.
 grows : (n : ℕ) {a b : ℕ} → a ≤ b → a * a * n * (n - 1) ≤ b * b * n * (n - 1)
@@ -53,17 +54,26 @@ small n v (suc s) h t =
           absurd (omega (arith, grows n odd))
     ]
 
--- The deviation meets both.
+-- The first number that is before its midpoint above meets both, and is not above V;
+meets-from : (n v : ℕ) → 2 ≤ n → T (is-deviation n (pos v) (first-from (before-midpoint-above n (pos v)) v 0))
+meets-from n v low =
+    and-i (before-midpoint-above n (pos v) s) (from-midpoint-below n (pos v) s)
+    (subst⁻¹ T (first-passes (before-midpoint-above n (pos v)) v 0 v zero-le (omega arith) (enough n v low)) tt) (by s refl)
+  where
+    s : ℕ
+    s = first-from (before-midpoint-above n (pos v)) v 0
+
+    by : (r : ℕ) → s ≡ r → T (from-midpoint-below n (pos v) r)
+    by zero e = tt
+    by (suc r) e = past n v r (none-before (before-midpoint-above n (pos v)) v 0 r zero-le (omega (arith, e)))
+
+-- so the deviation does.
 pub meets : (n v : ℕ) → 2 ≤ n → T (is-deviation n (pos v) (deviation n (pos v)))
 unfolding deviation
 meets n v low =
-    and-i (before-midpoint-above n (pos v) (deviation n (pos v))) (from-midpoint-below n (pos v) (deviation n (pos v)))
-    (subst⁻¹ T (first-passes (before-midpoint-above n (pos v)) v 0 (subst⁻¹ (λ (m : ℕ). before-midpoint-above n (pos v) m ≡ true) (zero-add v) (enough n v low))) tt)
-    (by (deviation n (pos v)) refl)
-  where
-    by : (s : ℕ) → deviation n (pos v) ≡ s → T (from-midpoint-below n (pos v) s)
-    by zero e = tt
-    by (suc s) e = past n v s (none-before (before-midpoint-above n (pos v)) v 0 s zero-le (omega (arith, e)))
+    subst⁻¹ T
+    (first-passes (is-deviation n (pos v)) v 0 _ zero-le (first-at-most (before-midpoint-above n (pos v)) v 0) (is-true _ (meets-from n v low)))
+    tt
 
 -- Of two that meet both, neither is below the other: the midpoint above the one is not above the midpoint below the other.
 not-less : (n v s r : ℕ) → T (is-deviation n (pos v) s) → T (is-deviation n (pos v) r) → s < r → ⊥

@@ -1,9 +1,8 @@
 -- What a search from a number on finds.
-use mathlib.Core.Path.{_≡_, refl, subst}
-use mathlib.Core.Bool.{Bool, true, false}
+use mathlib.Core.Path.{_≡_, refl, sym, _∙_, subst}
+use mathlib.Core.Bool.{Bool, true, false, true≢false}
 use Prim.Native.Nat.{ℕ, zero, suc, _+_, _≤_, _<_}
 use native.Mathlib.Decide.{ℕ-discrete}
-use native.Mathlib.Nat.{add-zero}
 use native.Mathlib.Omega.{arith}
 use Rattle.rules.specs.Deviation.{first-from}
 
@@ -16,18 +15,26 @@ module _ (passes : ℕ → Bool) where
   unfolding first-from
   goes-on tries from e = rw (e, first-from)
 
-  -- It passes, if the last that can be tried does;
-  pub first-passes : (tries from : ℕ) → passes (from + tries) ≡ true → passes (first-from passes tries from) ≡ true
+  pub first-at-most : (tries from : ℕ) → first-from passes tries from ≤ from + tries
   unfolding first-from
-  first-passes zero from last = rw add-zero at last
-  first-passes (suc tries) from last = by (passes from) refl (first-passes tries (suc from))
+  first-at-most zero from = omega arith
+  first-at-most (suc tries) from = by (passes from) refl (first-at-most tries (suc from))
     where
-      next : from + suc tries ≡ suc from + tries
-      next = omega arith
+      by : (b : Bool) → passes from ≡ b → first-from passes tries (suc from) ≤ suc from + tries → first-from passes (suc tries) from ≤ from + suc tries
+      by true e later = omega (arith, stops tries from e)
+      by false e later = omega (arith, goes-on tries from e)
 
-      by : (b : Bool) → passes from ≡ b → (passes (suc from + tries) ≡ true → passes (first-from passes tries (suc from)) ≡ true) → passes (first-from passes (suc tries) from) ≡ true
+  -- It passes, if any that can be tried does;
+  pub first-passes : (tries from i : ℕ) → from ≤ i → i ≤ from + tries → passes i ≡ true → passes (first-from passes tries from) ≡ true
+  unfolding first-from
+  first-passes zero from i low high here = subst (λ (m : ℕ). passes m ≡ true) (omega arith) here
+  first-passes (suc tries) from i low high here = by (passes from) refl (first-passes tries (suc from) i)
+    where
+      by : (b : Bool) → passes from ≡ b → (suc from ≤ i → i ≤ suc from + tries → passes i ≡ true → passes (first-from passes tries (suc from)) ≡ true) → passes (first-from passes (suc tries) from) ≡ true
       by true e later = rw (stops tries from e) e
-      by false e later = rw (goes-on tries from e) (later (rw next at last))
+      by false e later =
+          let other : from ≡ i → ⊥ = λ same. true≢false (sym here ∙ subst (λ (m : ℕ). passes m ≡ false) same e) in
+          rw (goes-on tries from e) (later (omega arith) (omega arith) here)
 
   -- and nothing before it does.
   pub none-before : (tries from i : ℕ) → from ≤ i → i < first-from passes tries from → passes i ≡ false

@@ -22,6 +22,6 @@ unfoldable pub first-from : (ℕ → Bool) → ℕ → ℕ → ℕ
 first-from passes zero s = s
 first-from passes (suc tries) s = elim (passes s) [ true ↦ s | false ↦ first-from passes tries (suc s) ]
 
--- It is found by a search from zero, for which V tries are enough (a law).
+-- It is not above V, and there is no other (laws).
 unfoldable pub deviation : ℕ → ℤ → ℕ
-deviation n v = first-from (before-midpoint-above n v) (natAbs v) 0
+deviation n v = first-from (is-deviation n v) (natAbs v) 0

@@ -28,11 +28,12 @@ use Rattle.rules.specs.declared.host.HostPair.{HostPair}
 use Rattle.rules.specs.declared.host.HostMixtureLimits.{HostMixtureLimits}
 use Rattle.rules.specs.declared.host.HostRead.{HostRead}
 use Rattle.rules.specs.declared.host.HostWritten.{HostWritten}
+use Rattle.rules.specs.declared.host.HostRow.{HostRow}
 use Rattle.rules.specs.Units.{thousandths}
 use Rattle.rules.specs.Said.{Said, refused, answers}
 use Rattle.rules.specs.Lot.{Lot, lot-of, places}
 use Rattle.rules.specs.Refusals.{number-of}
-use Rattle.rules.specs.Notebook.{lent-limit}
+use Rattle.rules.specs.Notebook.{lent-limit, mean-asked, deviation-asked, pwl-asked}
 use Rattle.rules.specs.Answers.{ReadSaid}
 use Rattle.rules.specs.Entries.{row-says}
 
@@ -146,3 +147,8 @@ host-read r = record { refusal = host-refusal (r .said); lot = host-lot (r .lot)
 abbrev pub host-written : Said ℕ → HostWritten
 host-written (refused r) = record { refusal = refusal-part r; size = 0 }
 host-written (answers size) = record { refusal = no-refusal; size = size }
+
+-- The notebook's row in one answer: each double is the one that is asked for by itself.
+abbrev pub host-row : Said Row → HostRow
+host-row said =
+    record { refusal = host-refusal said; mean = mean-asked said; deviation = deviation-asked said; pwl = pwl-asked said }

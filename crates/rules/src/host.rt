@@ -87,3 +87,11 @@ pub struct HostWritten {
     pub refusal: HostRefusal,
     pub size: usize,
 }
+
+#[repr(C)]
+pub struct HostRow {
+    pub refusal: HostRefusal,
+    pub mean: f64,
+    pub deviation: f64,
+    pub pwl: f64,
+}

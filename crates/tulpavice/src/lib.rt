@@ -13,12 +13,13 @@ use rules::host::HostPayment;
 use rules::host::HostPercentages;
 use rules::host::HostRead;
 use rules::host::HostRefusal;
+use rules::host::HostRow;
 use rules::host::HostWritten;
 ghost use mathlib.Core.Path.{_≡_};
 ghost use Rattle.rules.specs.Lot.{lot-in};
 ghost use Rattle.rules.specs.Notebook.{mean-asked, deviation-asked, pwl-asked};
 ghost use Rattle.rules.specs.Entries.{mean-says, deviation-says, evaluation-says, read-leaves, write-says, after-write, pay-says, mixture-says};
-ghost use Rattle.rules.specs.Host.{host-refusal, host-mean, host-deviation, host-percentages, host-payment, host-mixture-limits, given-lot, given-row, held-lot, host-read, host-written};
+ghost use Rattle.rules.specs.Host.{host-refusal, host-mean, host-deviation, host-percentages, host-payment, host-mixture-limits, given-lot, given-row, held-lot, host-read, host-written, host-row};
 
 #[no_mangle]
 pub extern "C" fn tulpavice_mean(readings: &[i32]) -> HostMean
@@ -155,4 +156,19 @@ pub extern "C" fn tulpavice_row_pwl(
     let above = limit(upper, upper_present);
     let below = limit(lower, lower_present);
     notebook::pwl(readings, above, below)
+}
+
+#[no_mangle]
+pub extern "C" fn tulpavice_row(
+    readings: &[u8],
+    upper: i32,
+    upper_present: u32,
+    lower: i32,
+    lower_present: u32,
+) -> HostRow
+    ensures { λ r. ⌜ r ≡ host-row (given-row upper «upper_present» lower «lower_present» (now (readings .entry))) ⌝ }
+{
+    let above = limit(upper, upper_present);
+    let below = limit(lower, lower_present);
+    host::row(notebook::row(readings, above, below))
 }

@@ -34,7 +34,7 @@ count-allowed n e =
     let h : (leb 2 n ≡ true) × (leb n most ≡ true) = and-eq-true-iff (leb 2 n) (leb n most) .0 (not-false (allowed n) e) in
     (leb-true 2 n (h .0), leb-true n most (h .1))
 
-readings-accepted : (xs : List ℤ) → checked (readings-meet xs) ≡ answers tt → Accepted xs
+pub readings-accepted : (xs : List ℤ) → checked (readings-meet xs) ≡ answers tt → Accepted xs
 unfolding readings-meet
 readings-accepted xs e =
     let m = none-met (count-case (length xs)) (range-case Absent Absent xs ∷ []) e in

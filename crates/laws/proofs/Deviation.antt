@@ -19,10 +19,10 @@ grows : (n : ℕ) {a b : ℕ} → a ≤ b → a * a * n * (n - 1) ≤ b * b * n 
 grows n h = mul-le-mul (mul-le-mul (mul-le-mul h h) (le-refl n)) (le-refl (n - 1))
 
 -- The two inequalities, as orders.
-above : (n v s : ℕ) → T (is-deviation n (pos v) s) → 4 * v < (2 * s + 1) * (2 * s + 1) * n * (n - 1)
+pub above : (n v s : ℕ) → T (is-deviation n (pos v) s) → 4 * v < (2 * s + 1) * (2 * s + 1) * n * (n - 1)
 above n v s t = ltb→lt _ _ (and-l (before-midpoint-above n (pos v) s) (from-midpoint-below n (pos v) s) t)
 
-below : (n v s : ℕ) → 0 < s → T (is-deviation n (pos v) s) → (2 * s - 1) * (2 * s - 1) * n * (n - 1) ≤ 4 * v
+pub below : (n v s : ℕ) → 0 < s → T (is-deviation n (pos v) s) → (2 * s - 1) * (2 * s - 1) * n * (n - 1) ≤ 4 * v
 below n v s h t =
     leb→le _ _ (rw (ne-eqb s 0 (λ z. omega arith)) at (and-r (before-midpoint-above n (pos v) s) (from-midpoint-below n (pos v) s) t))
 

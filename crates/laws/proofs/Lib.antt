@@ -28,6 +28,7 @@ pub mod Distance
 pub mod NoClamp
 pub mod OneLimit
 pub mod AsPublished
+pub mod PublishedOnce
 pub mod Wider
 pub mod TurnedTotals
 pub mod Turned
@@ -44,6 +45,7 @@ pub mod Taken
 pub mod InReach
 pub mod WiderPaid
 pub mod Lots
+pub mod Given
 pub mod EvaluationAnswers
 pub mod TurnedAnswers
 pub mod MovedAnswers
@@ -56,8 +58,11 @@ pub mod AbsentLimits
 pub mod Records
 pub mod Returns
 pub mod RecordAnswers
+pub mod GivenRecords
 pub mod DeskRecord
 pub mod DeskHost
 pub mod DeskRow
 pub mod Deviation
+pub mod PublishedDeviation
+pub mod PublishedAnswers
 pub mod Desk

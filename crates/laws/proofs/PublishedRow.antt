@@ -18,27 +18,10 @@ use Rattle.laws.specs.Ratio.{Ratio, ratio, Is, AtMost, Less}
 use Rattle.laws.specs.Root.{signed-square, Root, magnitude}
 use Rattle.laws.specs.PublishedIndex.{published-index}
 use Rattle.laws.specs.NearestRow.{BetweenMidpoints, NearestRow}
-use Rattle.laws.proofs.Value.{is-above, is-below}
+use Rattle.laws.proofs.Root.{midpoint-up-to, midpoint-above}
 use Rattle.laws.proofs.PublishedIndex.{index-squared-is}
 use Rattle.laws.proofs.Row.{Encloses, row-exactly-when-enclosing}
 use Rattle.laws.proofs.NearestRow.{enclosing-is-nearest, nearest-determined}
-
--- ---- one midpoint, squared, beside the index: e is D², m is n − 1
-
-midpoint-up-to :
-    (n w m e k : ℕ) → (k ≡ 0) ⊎ ((pos ((2 * k - 1) * (2 * k - 1) * n) *ℤ pos w) ≤ℤ (pos (1600 * m) *ℤ pos e)) →
-    AtMost (signed-square (ratio (pos (2 * k) -ℤ pos 1) 40)) (ratio (pos e *ℤ pos m) (n * w))
-midpoint-up-to n w m e zero h = record { order = diff-le (⊝ nat 1 ⊗ nat (n * w)) (nat (e * m * 1600)) (omega arith) }
-midpoint-up-to n w m e (suc j) h =
-    let o : ℕ = 2 * suc j - 1 in
-    let low : (pos (o * o * n) *ℤ pos w) ≤ℤ (pos (1600 * m) *ℤ pos e) = ⊎-elim (λ z. absurd (omega arith)) (λ l. l) h in
-    subst (λ (z : ℤ). AtMost (signed-square (ratio z 40)) (ratio (pos e *ℤ pos m) (n * w))) (diff-eq (nat o) (nat (2 * suc j) ⊖ nat 1) (omega arith))
-    (record { order = diff-le (nat (o * o * (n * w))) (nat (e * m * 1600)) (omega (arith, le-read low)) })
-
-midpoint-above :
-    (n w m e k : ℕ) → (pos (1600 * m) *ℤ pos e) <ℤ (pos ((2 * k + 1) * (2 * k + 1) * n) *ℤ pos w) →
-    Less (ratio (pos e *ℤ pos m) (n * w)) (signed-square (ratio (pos (2 * k + 1)) 40))
-midpoint-above n w m e k h = record { order = diff-lt (nat _) (nat _) (omega arithℤ) }
 
 -- ---- the row
 
@@ -70,8 +53,8 @@ module _ (xs : List ℤ) (some : 2 ≤ length xs) (above : pos 0 <ℤ spread (to
       let here = encloses k e in
       record {
         in-table = here .row;
-        from-below = record { squares = is-above under squared (midpoint-up-to n (natAbs v) (n - 1) (natAbs d * natAbs d) k (rw (square-nat d) at (here .from-below))) };
-        before-above = λ low. record { squares = is-below under squared (midpoint-above n (natAbs v) (n - 1) (natAbs d * natAbs d) k (rw (square-nat d) at (here .before-above low))) };
+        from-below = midpoint-up-to under squared 40 k (λ some. ⊎-elim (λ z. absurd (omega arith)) (λ low. omega (arith, le-read (rw (square-nat d) at low))) (here .from-below));
+        before-above = λ low. midpoint-above under squared 40 k (omega (arith, lt-read (rw (square-nat d) at (here .before-above low))));
       }
 
   -- It is the nearest, and no other is.

@@ -1,15 +1,18 @@
 -- A fraction and a root are in order as their signed squares are: what order is said of two fractions so, and how orders of both kinds join.
 use mathlib.Core.Path.{_≡_, sym, subst}
 use mathlib.Core.Logic.{_↔_}
-use Prim.Native.Nat.{ℕ, _*_, _≤_}
+use Prim.Native.Nat.{ℕ, zero, suc, _+_, _-_, _*_, _≤_, _<_}
 use native.Mathlib.Nat.{mul-le-mul}
-use lib.IntN.{ℤ, pos, _*ℤ_}
+use native.Mathlib.Omega.{arith}
+use lib.IntN.{ℤ, pos, _-ℤ_, _*ℤ_}
 use lib.Signed.{_≤ℤ_, _<ℤ_}
-use Rattle.integers.proofs.Order.{<ℤ→≤ℤ}
+use Rattle.integers.proofs.Difference.{var, nat, diff-eq, diff-le, lt-diff, diff-lt, ⊝_, _⊕_, _⊖_, _⊗_}
+use Rattle.integers.proofs.Order.{≤ℤ-antisym, <ℤ→≤ℤ, pos-mono}
 use Rattle.integers.proofs.Square.{signed, signed-≤, signed-<, signed-scaled}
-use Rattle.laws.specs.Ratio.{Ratio, ratio, Same, AtMost, Less}
-use Rattle.laws.specs.Root.{signed-square, Root, root, UpTo, RootUpTo, RootBelow}
+use Rattle.laws.specs.Ratio.{Ratio, ratio, Same, Is, AtMost, Less}
+use Rattle.laws.specs.Root.{signed-square, Root, root, UpTo, RootUpTo, RootBelow, HalfUpRoot}
 use Rattle.laws.proofs.Ratio.{at-most-trans, at-most-less, same-at-most}
+use Rattle.laws.proofs.Value.{is-above, is-below}
 
 -- Squaring, with the sign, keeps the order of fractions.
 module _ (f g : Ratio) where
@@ -84,3 +87,29 @@ module _ {x : Root} {f g : Ratio} where
 
 pub below-up-to : {x : Root} {f : Ratio} → RootBelow x f → RootUpTo x f
 below-up-to h = record { squares = record { order = <ℤ→≤ℤ (h .squares .order) } }
+
+-- ---- midpoints
+
+-- A root of a/u, and the numbers (2k − 1)/c and (2k + 1)/c, which are halfway from k to its neighbours in (c/2)ths: in squares, times u and c².
+module _ {x : Root} {a u : ℕ} (some : 1 ≤ u) (is : Is (x .square) (pos a) u) (c : ℕ) where
+  pub midpoint-up-to : (k : ℕ) → (0 < k → (2 * k - 1) * (2 * k - 1) * u ≤ a * (c * c)) → UpTo (ratio (pos (2 * k) -ℤ pos 1) c) x
+  midpoint-up-to zero h = record { squares = is-above some is (record { order = diff-le (⊝ nat 1 ⊗ nat u) (nat (a * (c * c))) (omega arith) }) }
+  midpoint-up-to (suc k) h =
+      let o : ℕ = 2 * suc k - 1 in
+      let low : o * o * u ≤ a * (c * c) = h (omega arith) in
+      subst (λ (z : ℤ). UpTo (ratio z c) x) (diff-eq (nat o) (nat (2 * suc k) ⊖ nat 1) (omega arith))
+      (record { squares = is-above some is (record { order = pos-mono low }) })
+
+  pub midpoint-above : (k : ℕ) → a * (c * c) < (2 * k + 1) * (2 * k + 1) * u → RootBelow x (ratio (pos (2 * k + 1)) c)
+  midpoint-above k h = record { squares = is-below some is (record { order = diff-lt (nat (a * (c * c))) (nat ((2 * k + 1) * (2 * k + 1) * u)) (omega arith) }) }
+
+-- ---- nearest whole numbers
+
+-- No second whole number is nearest a root.
+pub half-up-root-determined : {x : Root} {y z : ℤ} → HalfUpRoot x y → HalfUpRoot x z → y ≡ z
+half-up-root-determined {x} {y} {z} h k = ≤ℤ-antisym (not-above h k) (not-above k h)
+  where
+    not-above : {y z : ℤ} → HalfUpRoot x y → HalfUpRoot x z → y ≤ℤ z
+    not-above {y} {z} h k =
+        diff-le (var y) (var z)
+        (omega (arith, lt-diff ((nat 2 ⊗ var y ⊖ nat 1) ⊗ nat 2) ((nat 2 ⊗ var z ⊕ nat 1) ⊗ nat 2) (across-below {x = x} (omega arith) (h .low) (k .high) .order)))

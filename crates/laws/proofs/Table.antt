@@ -5,10 +5,11 @@ use mathlib.Core.List.{List, [], _∷_}
 use Prim.Native.Nat.{ℕ, zero, suc, _≤_, _<_}
 use native.Mathlib.Nat.{le-refl, le-trans, le-of-suc-le-suc}
 use native.Mathlib.Omega.{arith}
+use borrow.Author.Tests.{le-leb}
 use lib.Dec.{T, leb, eqb, leb→le, eqb→eq}
 use lib.Ieee.Fits.{and-l, and-r}
 use lib.ListN.{length, getD}
-use Rattle.rules.specs.Table.{rows, table-106-1, entries, entry, last-row, rises-from, well-formed, column-four}
+use Rattle.rules.specs.Table.{a-column, rows, table-106-1, entries, entry, last-row, rises-from, well-formed, column-four}
 use Rattle.laws.specs.Column.{Column}
 use Rattle.laws.proofs.Each.{each, each-at}
 
@@ -56,6 +57,11 @@ whole-table = tt
 pub table-106-1-column : (n : ℕ) → 2 ≤ n → n ≤ 10 → Column (entries (table-106-1 n))
 table-106-1-column n low high =
     column (entries (table-106-1 n)) (each-at (λ m. well-formed (entries (table-106-1 m))) 9 2 whole-table n low (omega arith))
+
+-- There is a column for each of these counts.
+pub table-106-1-found : (n : ℕ) → 2 ≤ n → n ≤ 10 → table-106-1 n ≡ a-column (entries (table-106-1 n))
+unfolding table-106-1
+table-106-1-found n low high = rw (le-leb 2 n low, le-leb n 10 high)
 
 -- Column n = 4 is what its formula says, at each of the 54 rows.
 fourth-column : T (each (λ k. eqb (entry (entries (table-106-1 4)) k) (column-four k)) (suc last-row) 0)

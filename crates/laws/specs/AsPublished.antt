@@ -3,11 +3,12 @@ use mathlib.Core.Path.{_≡_}
 use mathlib.Core.List.{List}
 use Prim.Native.Nat.{ℕ}
 use lib.IntN.{ℤ, pos, _+ℤ_, _-ℤ_}
+use lib.ListN.{length}
 use lib.Signed.{_≤ℤ_, _<ℤ_}
 use Rattle.rules.specs.declared.Limit.{Limit}
 use Rattle.rules.specs.declared.Limit.the-variants.{Absent, At}
 use Rattle.rules.specs.declared.Percentages.{Percentages}
-use Rattle.rules.specs.Table.{entry}
+use Rattle.rules.specs.Table.{a-column, table-106-1, entry}
 use Rattle.laws.specs.Ratio.{Ratio}
 use Rattle.laws.specs.Root.{Root, BelowZero, magnitude}
 use Rattle.laws.specs.AllEqual.{AllEqual}
@@ -42,3 +43,9 @@ pub record AsPublished (column : List ℕ) (upper lower : Limit) (xs : List ℤ)
   pub upper-side : UpperAsPublished column upper xs (p .upper .0)
   pub lower-side : LowerAsPublished column lower xs (p .lower .0)
   pub pwl : p .pwl .0 ≡ (p .upper .0 +ℤ p .lower .0) -ℤ pos 10000
+
+-- By Table 106-1: its column for as many readings as there are.
+pub record ByTable106-1 (upper lower : Limit) (xs : List ℤ) (p : Percentages) : Type 0 where
+  pub column : List ℕ
+  pub found : table-106-1 (length xs) ≡ a-column column
+  pub published : AsPublished column upper lower xs p

@@ -19,6 +19,7 @@ pub mod AllEqual
 pub mod PublishedIndex
 pub mod NearestRow
 pub mod AsPublished
+pub mod Given
 pub mod Settled
 pub mod InReach
 pub mod Taken

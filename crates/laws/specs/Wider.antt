@@ -1,9 +1,14 @@
 -- One limit at least as wide as another: an absent limit is widest, and of two that are present an upper one is not lower, a lower one
 -- not higher.
+use mathlib.Core.Path.{_≡_}
+use lib.IntN.{ℤ}
 use lib.Signed.{_≤ℤ_}
 use Rattle.rules.specs.declared.Limit.{Limit}
 use Rattle.rules.specs.declared.Limit.the-variants.{Absent, At}
+use Rattle.rules.specs.declared.Percentages.{Percentages}
+use Rattle.rules.specs.Said.{answers}
 use Rattle.rules.specs.Lot.{Lot}
+use Rattle.rules.specs.Entries.{evaluation-says}
 
 -- the same readings under other limits
 abbrev pub with-limits : Limit → Limit → Lot → Lot
@@ -18,3 +23,17 @@ abbrev pub LowerAsWide : Limit → Limit → Type 0
 LowerAsWide lower Absent = Unit {0}
 LowerAsWide Absent (At w) = ⊥
 LowerAsWide (At l) (At w) = w .0 ≤ℤ l .0
+
+-- The PWL that is answered for a lot.
+abbrev pub HasPwl : Lot → ℤ → Type 0
+HasPwl lot pwl = (p : Percentages) × (evaluation-says lot ≡ answers p) × (p .pwl .0 ≡ pwl)
+
+-- The PWLs of the same readings under two pairs of limits, the second at least as wide on each side.
+pub record Widened (pwl wider : ℤ) : Type 0 where
+  pub lot : Lot
+  pub upper : Limit
+  pub lower : Limit
+  pub upper-as-wide : UpperAsWide (lot .upper) upper
+  pub lower-as-wide : LowerAsWide (lot .lower) lower
+  pub narrow : HasPwl lot pwl
+  pub wide : HasPwl (with-limits upper lower lot) wider

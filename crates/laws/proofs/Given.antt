@@ -1,0 +1,109 @@
+-- What C gets: the refusal is 0 exactly when there is an answer, and what is given then is the answer.
+use mathlib.Core.Path.{_≡_, refl, sym, ap, _∙_, subst⁻¹}
+use Prim.Native.Nat.{ℕ}
+use native.Mathlib.Omega.{arith}
+use Rattle.rules.specs.declared.Thousandths.{Thousandths}
+use Rattle.rules.specs.declared.Mean.{Mean}
+use Rattle.rules.specs.declared.Percentages.{Percentages}
+use Rattle.rules.specs.declared.Payment.{Payment}
+use Rattle.rules.specs.declared.MixtureLimits.{MixtureLimits}
+use Rattle.rules.specs.declared.Row.{Row}
+use Rattle.rules.specs.declared.Refusal.{Refusal}
+use Rattle.rules.specs.declared.Refusal.the-variants.{Size, Version, Flags, Count, Range, Unlimited, Crossed, Room, Number}
+use Rattle.rules.specs.declared.host.HostRefusal.{HostRefusal}
+use Rattle.rules.specs.declared.host.HostMean.{HostMean}
+use Rattle.rules.specs.declared.host.HostDeviation.{HostDeviation}
+use Rattle.rules.specs.declared.host.HostPercentages.{HostPercentages}
+use Rattle.rules.specs.declared.host.HostPayment.{HostPayment}
+use Rattle.rules.specs.declared.host.HostMixtureLimits.{HostMixtureLimits}
+use Rattle.rules.specs.declared.host.HostRead.{HostRead}
+use Rattle.rules.specs.declared.host.HostWritten.{HostWritten}
+use Rattle.rules.specs.declared.host.HostRow.{HostRow}
+use Rattle.rules.specs.Units.{thousandths}
+use Rattle.rules.specs.Said.{Said, refused, answers}
+use Rattle.rules.specs.Lot.{Lot}
+use Rattle.rules.specs.Refusals.{number-of}
+use Rattle.rules.specs.Entries.{beside}
+use Rattle.rules.specs.Host.{refusal-part, no-refusal, host-refusal, host-mean, host-deviation, host-percentages, host-payment, host-mixture-limits, host-read, host-written, host-row}
+use Rattle.laws.specs.Given.{ZeroWhenAnswered, given-percentages}
+
+-- No refusal has the number 0.
+some-number : (r : Refusal) → number-of r ≡ 0 → ⊥
+some-number Size e = omega arith
+some-number Version e = omega arith
+some-number Flags e = omega arith
+some-number Count e = omega arith
+some-number Range e = omega arith
+some-number Unlimited e = omega arith
+some-number Crossed e = omega arith
+some-number Room e = omega arith
+some-number Number e = omega arith
+
+pub refusal-is-zero : {A : Type 0} (said : Said A) → ZeroWhenAnswered (host-refusal said) said
+refusal-is-zero (refused r) = (λ e. absurd (some-number r e), λ a. absurd (let z : _≡_ {A = ℕ} 0 1 = cc (a .1) in omega arith))
+refusal-is-zero (answers a) = (λ e. (a, refl), λ e. refl)
+
+-- So it is of any answer that begins with that part; and where it is 0, what is given is the answer.
+module _ {A H : Type 0} (host : Said A → H) (part : H → HostRefusal) (refusals : (r : Refusal) → part (host (refused r)) ≡ refusal-part r) (none : (a : A) → part (host (answers a)) ≡ no-refusal) where
+  begins : (said : Said A) → part (host said) ≡ host-refusal said
+  begins (refused r) = refusals r
+  begins (answers a) = none a
+
+  zero : (said : Said A) (r : H) → r ≡ host said → ZeroWhenAnswered (part r) said
+  zero said r e = subst⁻¹ (λ (x : HostRefusal). ZeroWhenAnswered x said) (ap part e ∙ begins said) (refusal-is-zero said)
+
+  given : (said : Said A) (r : H) → r ≡ host said → part r .number ≡ 0 → (a : A) × (said ≡ answers a) × (r ≡ host (answers a))
+  given said r e z = let h = zero said r e .0 z in (h .0, h .1, e ∙ ap host (h .1))
+
+-- ---- each of C's answers
+
+pub zero-in-mean : (said : Said Mean) (r : HostMean) → r ≡ host-mean said → ZeroWhenAnswered (r .refusal) said
+zero-in-mean = zero host-mean (λ (r : HostMean). r .refusal) (λ r. refl) (λ a. refl)
+
+pub zero-in-deviation : (said : Said Thousandths) (r : HostDeviation) → r ≡ host-deviation said → ZeroWhenAnswered (r .refusal) said
+zero-in-deviation = zero host-deviation (λ (r : HostDeviation). r .refusal) (λ r. refl) (λ a. refl)
+
+pub zero-in-percentages : (said : Said Percentages) (r : HostPercentages) → r ≡ host-percentages said → ZeroWhenAnswered (r .refusal) said
+zero-in-percentages = zero host-percentages (λ (r : HostPercentages). r .refusal) (λ r. refl) (λ a. refl)
+
+pub zero-in-payment : (said : Said Payment) (r : HostPayment) → r ≡ host-payment said → ZeroWhenAnswered (r .refusal) said
+zero-in-payment = zero host-payment (λ (r : HostPayment). r .refusal) (λ r. refl) (λ a. refl)
+
+pub zero-in-mixture-limits : (said : Said MixtureLimits) (r : HostMixtureLimits) → r ≡ host-mixture-limits said → ZeroWhenAnswered (r .refusal) said
+zero-in-mixture-limits = zero host-mixture-limits (λ (r : HostMixtureLimits). r .refusal) (λ r. refl) (λ a. refl)
+
+pub zero-in-written : (said : Said ℕ) (r : HostWritten) → r ≡ host-written said → ZeroWhenAnswered (r .refusal) said
+zero-in-written = zero host-written (λ (r : HostWritten). r .refusal) (λ r. refl) (λ a. refl)
+
+pub zero-in-row : (said : Said Row) (r : HostRow) → r ≡ host-row said → ZeroWhenAnswered (r .refusal) said
+zero-in-row = zero host-row (λ (r : HostRow). r .refusal) (λ r. refl) (λ a. refl)
+
+-- a lot that was read
+abbrev host-lot-read : Said Lot → HostRead
+host-lot-read said = host-read (beside said)
+
+pub zero-in-read : (said : Said Lot) (r : HostRead) → r ≡ host-read (beside said) → ZeroWhenAnswered (r .refusal) said
+zero-in-read = zero host-lot-read (λ (r : HostRead). r .refusal) (λ r. refl) (λ a. refl)
+
+-- ---- the answers that laws speak of
+
+pub percentages-given :
+    (said : Said Percentages) (r : HostPercentages) → r ≡ host-percentages said → r .refusal .number ≡ 0 → said ≡ answers (given-percentages r)
+percentages-given said r e z =
+    let h = given host-percentages (λ (x : HostPercentages). x .refusal) (λ x. refl) (λ a. refl) said r e z in
+    h .1 ∙ ap (λ (x : HostPercentages). answers (given-percentages x)) (sym (h .2))
+
+pub deviation-given : (said : Said Thousandths) (r : HostDeviation) → r ≡ host-deviation said → r .refusal .number ≡ 0 → said ≡ answers (thousandths (r .deviation))
+deviation-given said r e z =
+    let h = given host-deviation (λ (x : HostDeviation). x .refusal) (λ x. refl) (λ a. refl) said r e z in
+    h .1 ∙ ap (λ (x : HostDeviation). answers (thousandths (x .deviation))) (sym (h .2))
+
+pub written-given : (said : Said ℕ) (r : HostWritten) → r ≡ host-written said → r .refusal .number ≡ 0 → said ≡ answers (r .size)
+written-given said r e z =
+    let h = given host-written (λ (x : HostWritten). x .refusal) (λ x. refl) (λ a. refl) said r e z in
+    h .1 ∙ ap (λ (x : HostWritten). answers (x .size)) (sym (h .2))
+
+pub payment-given :
+    (said : Said Payment) (r : HostPayment) → r ≡ host-payment said → r .refusal .number ≡ 0 →
+    (p : Payment) × (said ≡ answers p) × (r ≡ host-payment (answers p))
+payment-given = given host-payment (λ (x : HostPayment). x .refusal) (λ x. refl) (λ a. refl)

@@ -1,0 +1,21 @@
+-- What is said of C's answers.
+use mathlib.Core.Path.{_≡_}
+use mathlib.Core.Logic.{_↔_}
+use lib.IntN.{ℤ}
+use Rattle.rules.specs.declared.Percentages.{Percentages}
+use Rattle.rules.specs.declared.host.HostRefusal.{HostRefusal}
+use Rattle.rules.specs.declared.host.HostPercentages.{HostPercentages}
+use Rattle.rules.specs.Units.{hundredths}
+use Rattle.rules.specs.Said.{Said, answers}
+
+-- There is an answer.
+abbrev pub Answered : {A : Type 0} → Said A → Type 0
+Answered {A} said = (a : A) × (said ≡ answers a)
+
+-- The refusal is 0 exactly when there is one.
+abbrev pub ZeroWhenAnswered : {A : Type 0} → HostRefusal → Said A → Type 0
+ZeroWhenAnswered part said = (part .number ≡ 0) ↔ Answered said
+
+-- C's percentages in their kind
+abbrev pub given-percentages : HostPercentages → Percentages
+given-percentages r = record { upper = hundredths (r .upper); lower = hundredths (r .lower); pwl = hundredths (r .pwl) }

@@ -72,9 +72,9 @@ module _ (q : Root) (some : 1 ≤ q .square .under) (k : ℕ) (e : BetweenMidpoi
   as-near j table d proper w =
       elim (decLt j k) [
         | yes low ↦ (
-            up-to-falls (omega arith) (from-lower d low (across some (e .from-below) (w .1))) (e .from-below),
-            root-up-to-grows (omega arith) (w .1) (more-keeps d (omega arith)),
-          )
+          up-to-falls (omega arith) (from-lower d low (across some (e .from-below) (w .1))) (e .from-below),
+          root-up-to-grows (omega arith) (w .1) (more-keeps d (omega arith)),
+        )
         | no not-lower ↦
             elim (decLt k j) [
               | yes high ↦

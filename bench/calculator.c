@@ -51,12 +51,19 @@ static struct tulpavice_deviation no_deviation(const int32_t *readings, size_t c
     return (struct tulpavice_deviation){0};
 }
 
+static struct tulpavice_row no_row(const uint8_t *readings, size_t size, int32_t upper, uint32_t upper_present,
+                                   int32_t lower, uint32_t lower_present)
+{
+    (void)readings, (void)size, (void)upper, (void)upper_present, (void)lower, (void)lower_present;
+    return (struct tulpavice_row){0};
+}
+
 const struct calculator library = {"library", tulpavice_evaluate, tulpavice_evaluate_lot, tulpavice_read,
                                    tulpavice_write, tulpavice_pay, tulpavice_mixture, tulpavice_mean,
-                                   tulpavice_deviation};
+                                   tulpavice_deviation, tulpavice_row};
 
 const struct calculator plain = {"plain", plain_evaluate, plain_evaluate_lot, plain_read, plain_write,
-                                 plain_pay, plain_mixture, plain_mean, plain_deviation};
+                                 plain_pay, plain_mixture, plain_mean, plain_deviation, plain_row};
 
 const struct calculator nothing = {"nothing", no_evaluate, no_evaluate_lot, no_read, no_write,
-                                   no_pay, no_mixture, no_mean, no_deviation};
+                                   no_pay, no_mixture, no_mean, no_deviation, no_row};

@@ -16,6 +16,8 @@ struct calculator {
     struct tulpavice_mixture_limits (*mixture)(int64_t mixture, int32_t minimum, int32_t target);
     struct tulpavice_mean (*mean)(const int32_t *readings, size_t count);
     struct tulpavice_deviation (*deviation)(const int32_t *readings, size_t count);
+    struct tulpavice_row (*row)(const uint8_t *readings, size_t size, int32_t upper, uint32_t upper_present,
+                                int32_t lower, uint32_t lower_present);
 };
 
 /* The library, plain C, and a calculator whose answers are all zero: what a loop of calls costs by itself. */

@@ -95,6 +95,14 @@ static void spoil_lot(struct tulpavice_lot *lot)
     }
 }
 
+/* Four bytes to each reading, highest first. */
+static void spell(const struct tulpavice_lot *lot, uint8_t *bytes)
+{
+    for (uint32_t i = 0; i < lot->count; i++)
+        for (int shift = 24; shift >= 0; shift -= 8)
+            *bytes++ = (uint8_t)((uint32_t)lot->readings[i] >> shift);
+}
+
 static struct record record_of_job(void)
 {
     struct record record;
@@ -121,6 +129,7 @@ void make_inputs(struct inputs *inputs, size_t number)
         inputs->lots[i] = lot_of_job();
         if (one_in(ONE_REFUSED_IN))
             spoil_lot(&inputs->lots[i]);
+        spell(&inputs->lots[i], inputs->bytes[i]);
         inputs->rooms[i] = one_in(ONE_REFUSED_IN) ? (size_t)between(0, LONGEST_RECORD) : ROOM;
         inputs->records[i] = record_of_job();
         inputs->sales[i] = sale_of_job();

@@ -25,10 +25,11 @@ struct lookup {
     int32_t target;
 };
 
-/* So many of each. A lot is evaluated from its places and as a whole, and written into so much room. */
+/* So many of each. A lot is evaluated from its places, as a whole and from its readings as bytes, and written into so much room. */
 struct inputs {
     size_t number;
     struct tulpavice_lot lots[MOST_INPUTS];
+    uint8_t bytes[MOST_INPUTS][4 * TULPAVICE_MOST];
     size_t rooms[MOST_INPUTS];
     struct record records[MOST_INPUTS];
     struct sale sales[MOST_INPUTS];

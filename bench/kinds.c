@@ -105,6 +105,24 @@ CALL(deviation, struct tulpavice_deviation)
 LOOP(deviation, struct tulpavice_deviation, a.refusal.number + (uint32_t)a.deviation)
 ANSWER(deviation, struct tulpavice_deviation, a.refusal.number, a.deviation)
 
+CALL(row, struct tulpavice_row)
+{
+    const struct tulpavice_lot *lot = &inputs->lots[i];
+    return who->row(inputs->bytes[i], 4 * lot->count, lot->upper, lot->upper_present, lot->lower, lot->lower_present);
+}
+
+/* A double by its bits. */
+static int64_t bits(double value)
+{
+    int64_t taken;
+    memcpy(&taken, &value, sizeof taken);
+    return taken;
+}
+
+LOOP(row, struct tulpavice_row,
+     a.refusal.number + (uint64_t)bits(a.mean) + (uint64_t)bits(a.deviation) + (uint64_t)bits(a.pwl))
+ANSWER(row, struct tulpavice_row, a.refusal.number, bits(a.mean), bits(a.deviation), bits(a.pwl))
+
 static void show_lot(const struct inputs *inputs, size_t i)
 {
     const struct tulpavice_lot *lot = &inputs->lots[i];
@@ -142,5 +160,5 @@ enum { CALLS = 512, SLOW_CALLS = CALLS / 32 };
 const struct kind kinds[KINDS] = {
     KIND(evaluate, show_lot, CALLS), KIND(evaluate_lot, show_lot, CALLS), KIND(read, show_record, CALLS),
     KIND(write, show_lot, CALLS),    KIND(pay, show_sale, CALLS),         KIND(mixture, show_lookup, CALLS),
-    KIND(mean, show_lot, CALLS),     KIND(deviation, show_lot, SLOW_CALLS),
+    KIND(mean, show_lot, CALLS),     KIND(deviation, show_lot, SLOW_CALLS), KIND(row, show_lot, SLOW_CALLS),
 };

@@ -17,7 +17,7 @@ struct kind {
     size_t calls_a_turn;
 };
 
-enum { KINDS = 8 };
+enum { KINDS = 9 };
 
 extern const struct kind kinds[KINDS];
 

@@ -2,8 +2,8 @@
    input, one a line, and each is answered by a line, which begins with the name of the call.
 
      lot U UP L LP N r1..rN           the mean, the percentages, and of the row its refusal, mean and PWL
-     deviation U UP L LP N r1..rN     the deviation, and the row's
-     bytes U UP L LP HEX              the row of readings that come as bytes
+     deviation U UP L LP N r1..rN     the deviation, the row's, and the row in one call
+     bytes U UP L LP HEX              the row of readings that come as bytes, by its four calls and then in one
      held U UP L LP COUNT r0..r9      the percentages of a lot
      pay VMA VOIDS DENSITY PRICE QUANTITY
      mixture NUMBER MINIMUM TARGET
@@ -196,6 +196,14 @@ static void print_percentages(struct tulpavice_percentages answer)
     print(answer.pwl);
 }
 
+static void print_row(struct tulpavice_row answer)
+{
+    print(answer.refusal.number);
+    print_double(answer.mean);
+    print_double(answer.deviation);
+    print_double(answer.pwl);
+}
+
 static void print_read(struct tulpavice_read answer)
 {
     print(answer.refusal.number);
@@ -234,6 +242,7 @@ static void answer_deviation(void)
     print(answer.refusal.number);
     print(answer.deviation);
     print_double(tulpavice_row_deviation(bytes, 4 * count, l.upper, l.upper_present, l.lower, l.lower_present));
+    print_row(tulpavice_row(bytes, 4 * count, l.upper, l.upper_present, l.lower, l.lower_present));
 }
 
 static void answer_bytes(void)
@@ -245,6 +254,7 @@ static void answer_bytes(void)
     print_double(tulpavice_row_mean(bytes, size, l.upper, l.upper_present, l.lower, l.lower_present));
     print_double(tulpavice_row_deviation(bytes, size, l.upper, l.upper_present, l.lower, l.lower_present));
     print_double(tulpavice_row_pwl(bytes, size, l.upper, l.upper_present, l.lower, l.lower_present));
+    print_row(tulpavice_row(bytes, size, l.upper, l.upper_present, l.lower, l.lower_present));
 }
 
 static void answer_held(void)

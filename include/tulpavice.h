@@ -104,6 +104,14 @@ struct tulpavice_written {
     size_t size;
 };
 
+/* The notebook's row: mean and deviation in the readings' own units, thousandths over 1000, and PWL in percent. */
+struct tulpavice_row {
+    struct tulpavice_refusal refusal;
+    double mean;
+    double deviation;
+    double pwl;
+};
+
 /* Of some readings, as plain numbers. Refusals 4 and 5. */
 struct tulpavice_mean tulpavice_mean(const int32_t *readings, size_t count);
 
@@ -132,10 +140,12 @@ struct tulpavice_read tulpavice_read(const uint8_t *bytes, size_t size);
    leaves every byte. Refusals 4 to 8. */
 struct tulpavice_written tulpavice_write(struct tulpavice_lot lot, uint8_t *out, size_t room);
 
-/* The notebook's row. Readings come as bytes, four to each, two's complement, highest first, as in a record. The
-   refusal, 4 to 7 or 0 for none, and each double are asked for by calls of their own; of a refused lot each double is 0.
-   The mean and the deviation are in the readings' own units, thousandths over 1000, and PWL is in percent; each is one
-   division of exact doubles. */
+/* The notebook's row, of readings that come as bytes, four to each, two's complement, highest first, as in a record.
+   Each double is one division of exact doubles, and 0 where the lot is refused. Refusals 4 to 7. */
+struct tulpavice_row tulpavice_row(const uint8_t *readings, size_t size, int32_t upper, uint32_t upper_present,
+                                   int32_t lower, uint32_t lower_present);
+
+/* The same, its refusal and each of its doubles by a call of its own: no more is worked out than is asked for. */
 struct tulpavice_refusal tulpavice_row_refusal(const uint8_t *readings, size_t size, int32_t upper,
                                                uint32_t upper_present, int32_t lower, uint32_t lower_present);
 double tulpavice_row_mean(const uint8_t *readings, size_t size, int32_t upper, uint32_t upper_present, int32_t lower,

@@ -218,24 +218,26 @@ def answer_lot(upper, upper_present, lower, lower_present, count, *readings):
     return f"{mean_answer} {spaced(0, *sides)} 0 {double(sum(readings), 1000 * count)} {double(sides[2], 100)}"
 
 
+def row(lot):
+    """The notebook's row: its refusal and three doubles."""
+    refused = refusal(LOT, lot)
+    if refused:
+        return [refused, NOUGHT, NOUGHT, NOUGHT]
+    quotients = (sum(lot.readings), 1000 * lot.count), (rounded_deviation(lot.readings), 1000), (evaluate(lot)[2], 100)
+    return [0, *(double(*quotient) for quotient in quotients)]
+
+
 def answer_deviation(upper, upper_present, lower, lower_present, count, *readings):
     unread = refusal(READINGS, Lot(None, None, count, readings))
-    if unread:
-        return f"{unread} 0 {NOUGHT}"
-    lot = lot_of(upper, upper_present, lower, lower_present, count, readings)
-    rounded = rounded_deviation(readings)
-    return f"0 {rounded} {NOUGHT if refusal(LOT, lot) else double(rounded, 1000)}"
+    whole_row = row(lot_of(upper, upper_present, lower, lower_present, count, readings))
+    return spaced(unread, 0 if unread else rounded_deviation(readings), whole_row[2], *whole_row)
 
 
 def answer_bytes(upper, upper_present, lower, lower_present, data):
     # a size that is no multiple of four fits no number of readings, as 0 does
     count = 0 if len(data) % 4 else len(data) // 4
-    lot = lot_of(upper, upper_present, lower, lower_present, count, big_endian(data))
-    refused = refusal(LOT, lot)
-    if refused:
-        return f"{refused} {NOUGHT} {NOUGHT} {NOUGHT}"
-    row = (sum(lot.readings), 1000 * count), (rounded_deviation(lot.readings), 1000), (evaluate(lot)[2], 100)
-    return f"0 {' '.join(double(*quotient) for quotient in row)}"
+    whole_row = row(lot_of(upper, upper_present, lower, lower_present, count, big_endian(data)))
+    return spaced(*whole_row, *whole_row)
 
 
 def answer_held(upper, upper_present, lower, lower_present, count, *places):

@@ -15,6 +15,7 @@ use Rattle.rules.specs.Refusals.{any-out}
 use Rattle.rules.specs.Meets.{row-meets}
 use Rattle.rules.specs.Notebook.{lent-lot, row-of, mean-asked, deviation-asked, pwl-asked}
 use Rattle.rules.specs.Entries.{percentages-of, row-says}
+use Rattle.rules.specs.Host.{host-row}
 use Rattle.laws.specs.Desk.{at, asked}
 
 -- Document 01's voids lot, of which T is 41,600, s 825 and PWL 9,128: as doubles 4.16, 0.825 and 91.28, by their bits.
@@ -33,6 +34,20 @@ pub refused-row-is-zero :
     (mean-asked (refused Count) ≡ ofBits binary64 0) × (deviation-asked (refused Count) ≡ ofBits binary64 0) × (pwl-asked (refused Count) ≡ ofBits binary64 0)
 unfolding ofBits
 refused-row-is-zero = (refl, refl, refl)
+
+-- The row in one answer: that of the voids lot, and a refused one's.
+pub row-is-given :
+    (host-row (answers (row-of (pos 41600) 10 (pos 825) (pos 9128))) ≡
+    record {
+      refusal = record { number = 0 };
+      mean = ofBits binary64 4616369762039853220;
+      deviation = ofBits binary64 4605606158930437734;
+      pwl = ofBits binary64 4636123675905407058;
+    }) ×
+    (host-row (refused Count) ≡
+    record { refusal = record { number = 4 }; mean = ofBits binary64 0; deviation = ofBits binary64 0; pwl = ofBits binary64 0 })
+unfolding row-of div ofInt ofBits
+row-is-given = (refl, refl)
 
 -- D9 as bytes: of 0 and 1, with an upper limit of 1.
 pub d9-row : row-says (at 1) Absent (in-fours (pos 0 ∷ pos 1 ∷ [])) ≡ answers (row-of (pos 1) 2 (pos 1) (pos 7249))

@@ -9,12 +9,12 @@ use Rattle.rules.specs.Units.{hundredths}
 use Rattle.rules.specs.Said.{Said, answers}
 
 -- There is an answer.
-abbrev pub Answered : {A : Type 0} → Said A → Type 0
-Answered {A} said = (a : A) × (said ≡ answers a)
+abbrev pub HasAnswer : {A : Type 0} → Said A → Type 0
+HasAnswer {A} said = (a : A) × (said ≡ answers a)
 
 -- The refusal is 0 exactly when there is one.
 abbrev pub ZeroWhenAnswered : {A : Type 0} → HostRefusal → Said A → Type 0
-ZeroWhenAnswered part said = (part .number ≡ 0) ↔ Answered said
+ZeroWhenAnswered part said = (part .number ≡ 0) ↔ HasAnswer said
 
 -- C's percentages in their kind
 abbrev pub given-percentages : HostPercentages → Percentages

@@ -53,18 +53,6 @@ static uint32_t limits_refused(int32_t upper, bool has_upper, int32_t lower, boo
     return 0;
 }
 
-/* n, T and V of a lot, and what it meets, 4 to 7: a limit out of range is seen before the readings are, whatever they are. */
-static uint32_t total_lot(const int32_t *readings, size_t count, int32_t upper, uint32_t upper_present, int32_t lower,
-                          uint32_t lower_present, struct totals *a)
-{
-    uint32_t refusal = total(readings, count, a);
-    if (refusal == 4)
-        return 4;
-    if ((upper_present && out_of_range(upper)) || (lower_present && out_of_range(lower)))
-        return 5;
-    return refusal ? refusal : limits_refused(upper, upper_present, lower, lower_present);
-}
-
 /* The largest k from 0 to 53 with k = 0 or (2k-1)^2 nV <= 1600 (n-1) D^2. */
 static unsigned row(int64_t nv, int64_t reach)
 {
@@ -88,26 +76,22 @@ static int64_t side(const struct totals *a, int64_t d)
     return d < 0 ? WHOLE - entry : entry;
 }
 
-static int64_t upper_side(const struct totals *a, int32_t upper, bool present)
-{
-    return present ? side(a, a->n * upper - a->t) : WHOLE;
-}
-
-static int64_t lower_side(const struct totals *a, int32_t lower, bool present)
-{
-    return present ? side(a, a->t - a->n * lower) : WHOLE;
-}
-
 struct tulpavice_percentages plain_evaluate(const int32_t *readings, size_t count, int32_t upper,
                                             uint32_t upper_present, int32_t lower, uint32_t lower_present)
 {
     struct tulpavice_percentages answer = {0};
     struct totals a;
-    answer.refusal.number = total_lot(readings, count, upper, upper_present, lower, lower_present, &a);
+    answer.refusal.number = total(readings, count, &a);
+    if (answer.refusal.number == 4)
+        return answer;
+    if ((upper_present && out_of_range(upper)) || (lower_present && out_of_range(lower)))
+        answer.refusal.number = 5;
+    if (answer.refusal.number == 0)
+        answer.refusal.number = limits_refused(upper, upper_present, lower, lower_present);
     if (answer.refusal.number != 0)
         return answer;
-    answer.upper = upper_side(&a, upper, upper_present);
-    answer.lower = lower_side(&a, lower, lower_present);
+    answer.upper = upper_present ? side(&a, a.n * upper - a.t) : WHOLE;
+    answer.lower = lower_present ? side(&a, a.t - a.n * lower) : WHOLE;
     answer.pwl = answer.upper + answer.lower - WHOLE;
     return answer;
 }
@@ -282,25 +266,43 @@ struct tulpavice_written plain_write(struct tulpavice_lot lot, uint8_t *out, siz
     return answer;
 }
 
+/* n, T and V of readings as bytes; the refusal, 4 or 5, or 0 for none. */
+static uint32_t total_bytes(const uint8_t *bytes, size_t size, struct totals *a)
+{
+    if (size % 4 != 0 || size < 4 * FEWEST || size > 4 * TULPAVICE_MOST)
+        return 4;
+    int64_t t = 0, z = 0;
+    for (size_t i = 0; i < size; i += 4) {
+        int32_t x = (int32_t)word(bytes + i);
+        if (out_of_range(x))
+            return 5;
+        t += x;
+        z += (int64_t)x * x;
+    }
+    a->n = (int64_t)(size / 4);
+    a->t = t;
+    a->v = a->n * z - t * t;
+    return 0;
+}
+
 struct tulpavice_row plain_row(const uint8_t *bytes, size_t size, int32_t upper, uint32_t upper_present, int32_t lower,
                                uint32_t lower_present)
 {
     struct tulpavice_row answer = {0};
     struct totals a;
-    int32_t readings[TULPAVICE_MOST];
-    size_t count = size / 4;
-    if (size % 4 != 0 || count > TULPAVICE_MOST) {
-        answer.refusal.number = 4;
+    answer.refusal.number = total_bytes(bytes, size, &a);
+    if (answer.refusal.number == 4)
         return answer;
-    }
-    for (size_t i = 0; i < count; i++)
-        readings[i] = (int32_t)word(bytes + 4 * i);
-    answer.refusal.number = total_lot(readings, count, upper, upper_present, lower, lower_present, &a);
+    if ((upper_present && out_of_range(upper)) || (lower_present && out_of_range(lower)))
+        answer.refusal.number = 5;
+    if (answer.refusal.number == 0)
+        answer.refusal.number = limits_refused(upper, upper_present, lower, lower_present);
     if (answer.refusal.number != 0)
         return answer;
-    int64_t pwl = upper_side(&a, upper, upper_present) + lower_side(&a, lower, lower_present) - WHOLE;
+    int64_t above = upper_present ? side(&a, a.n * upper - a.t) : WHOLE;
+    int64_t below = lower_present ? side(&a, a.t - a.n * lower) : WHOLE;
     answer.mean = (double)a.t / (double)(1000 * a.n);
     answer.deviation = (double)rounded_deviation(&a) / 1000;
-    answer.pwl = (double)pwl / 100;
+    answer.pwl = (double)(above + below - WHOLE) / 100;
     return answer;
 }

@@ -67,10 +67,10 @@ module _ (column : List ℕ) (xs : List ℤ) (some : 2 ≤ length xs) (beyond : 
         by-the-table =
             λ unequal.
             let above = unequal-spread xs unequal in
-            let sign = index-sign-is xs some above beyond d is in
+            let sign = index-sign-is xs above beyond d is in
             record {
               row = nearest n v d;
-              nearest = row-is-nearest xs some above beyond d is (nearest n v d) .0 refl;
+              nearest = row-is-nearest xs above beyond d is (nearest n v d) .0 refl;
               inside = λ h. inside (not-below d (λ k. h (sign .1 k))) ∙ ap pos (at-the-row above);
               outside = λ h. outside (sign .0 h) ∙ ap (λ (e : ℕ). pos 10000 -ℤ pos e) (at-the-row above);
             };

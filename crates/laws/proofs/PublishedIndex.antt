@@ -8,7 +8,7 @@ use native.Mathlib.Omega.{arith}
 use lib.IntN.{ℤ, pos, natAbs, _+ℤ_, _-ℤ_, _*ℤ_, *ℤ-comm}
 use lib.ListN.{length}
 use lib.Signed.{_≤ℤ_, _<ℤ_}
-use Rattle.integers.proofs.Difference.{var, nat, diff-eq, eq-diff, lt-read, _⊕_, _⊖_, _⊗_}
+use Rattle.integers.proofs.Difference.{var, nat, diff-eq, eq-diff, lt-diff, lt-read, _⊕_, _⊖_, _⊗_}
 use Rattle.integers.proofs.Ring.{*ℤ-distrib-l, *ℤ-assoc}
 use Rattle.integers.proofs.Order.{<ℤ→≤ℤ}
 use Rattle.integers.proofs.Magnitude.{natAbs-parts, natAbs-mul, natAbs-pos}
@@ -41,6 +41,14 @@ off-squares m t [] = diff-eq (nat 0) (nat (m * m) ⊗ nat 0 ⊕ nat 0 ⊗ (var t
 off-squares m t (y ∷ ys) =
     one-more (m * m) (2 * m) (length ys) _ _ (y *ℤ y) (squares ys) (t *ℤ t) (t *ℤ y) (t *ℤ sum ys) (off-square m t y) (off-squares m t ys)
     ∙ ap (λ (x : ℤ). (pos (m * m) *ℤ (y *ℤ y +ℤ squares ys) +ℤ pos (suc (length ys)) *ℤ (t *ℤ t)) -ℤ pos (2 * m) *ℤ x) (sym (*ℤ-distrib-l t y (sum ys)))
+
+-- Fewer than two readings have a V of 0.
+pub spread-needs-two : (xs : List ℤ) → pos 0 <ℤ spread (totals (length xs) xs) → 2 ≤ length xs
+unfolding spread sum squares
+spread-needs-two [] h = absurd (h .lt)
+spread-needs-two (x ∷ []) h =
+    absurd (omega (arith, lt-diff (nat 0) (nat 1 ⊗ (var x ⊗ var x ⊕ nat 0) ⊖ (var x ⊕ nat 0) ⊗ (var x ⊕ nat 0)) h))
+spread-needs-two (x ∷ y ∷ ys) h = omega arith
 
 module _ (xs : List ℤ) where
   -- n, T and V
@@ -90,12 +98,15 @@ module _ (xs : List ℤ) where
   lower-beyond-is some l = rw (*ℤ-comm (pos n) l) (is-minus (mean-is some) (whole-is l))
 
   -- (3) and (4): of the index of a limit that lies D/n beyond the mean, for V above 0
-  module _ (some : 2 ≤ n) (above : pos 0 <ℤ v) (beyond : Ratio) (d : ℤ) (is : Is beyond d n) where
+  module _ (above : pos 0 <ℤ v) (beyond : Ratio) (d : ℤ) (is : Is beyond d n) where
     abbrev q : Root
     q = published-index beyond xs
 
+    some : 2 ≤ n
+    some = spread-needs-two xs above
+
     least : 1 ≤ n
-    least = omega arith
+    least = omega (arith, some)
 
     some-spread : 1 ≤ natAbs v
     some-spread = omega (arith, natAbs-parts v, lt-read above)
@@ -106,7 +117,7 @@ module _ (xs : List ℤ) where
         let w : ℕ = natAbs v in
         let x : ℤ = d *ℤ pos (natAbs d) in
         let s : Is (published-deviation xs .square) (pos w) (n * (n - 1)) = rw (natAbs-pos (<ℤ→≤ℤ above)) (variance-is some) in
-        is-also (is-quotient some-spread (mul-pos least (omega arith)) (is-signed-square is) s) (mul-pos (mul-pos least least) some-spread)
+        is-also (is-quotient some-spread (mul-pos least (omega (arith, some))) (is-signed-square is) s) (mul-pos (mul-pos least least) some-spread)
         (*ℤ-assoc x (pos (n * (n - 1))) (pos (n * w)) ∙ ap (λ (k : ℕ). x *ℤ pos k) (omega arith) ∙ sym (*ℤ-assoc x (pos (n - 1)) (pos (n * n * w))))
 
     pub index-squared-is : Is (magnitude q .square) (d *ℤ d *ℤ pos (n - 1)) (n * natAbs v)
@@ -118,6 +129,6 @@ module _ (xs : List ℤ) where
     index-sign-is =
         let x : ℤ = d *ℤ pos (natAbs d) in
         let one = is-negative (mul-pos least some-spread) signed-is in
-        let two = one-sign (x *ℤ pos (n - 1)) x 1 (n - 1) (omega arith) (omega arith) (diff-eq (var x ⊗ nat (n - 1) ⊗ nat 1) (var x ⊗ nat (n - 1)) (omega arith)) in
+        let two = one-sign (x *ℤ pos (n - 1)) x 1 (n - 1) (omega arith) (omega (arith, some)) (diff-eq (var x ⊗ nat (n - 1) ⊗ nat 1) (var x ⊗ nat (n - 1)) (omega arith)) in
         let three = signed-< d (pos 0) in
         (λ h. three .1 (two .0 (one .0 h)), λ h. one .1 (two .1 (three .0 h)))

@@ -19,14 +19,14 @@ use Rattle.laws.specs.Root.{signed-square, Root, magnitude}
 use Rattle.laws.specs.PublishedIndex.{published-index}
 use Rattle.laws.specs.NearestRow.{BetweenMidpoints, NearestRow}
 use Rattle.laws.proofs.Root.{midpoint-up-to, midpoint-above}
-use Rattle.laws.proofs.PublishedIndex.{index-squared-is}
+use Rattle.laws.proofs.PublishedIndex.{spread-needs-two, index-squared-is}
 use Rattle.laws.proofs.Row.{Encloses, row-exactly-when-enclosing}
 use Rattle.laws.proofs.NearestRow.{enclosing-is-nearest, nearest-determined}
 
 -- ---- the row
 
--- Of a limit that lies D/n beyond the mean, for V above 0.
-module _ (xs : List ℤ) (some : 2 ≤ length xs) (above : pos 0 <ℤ spread (totals (length xs) xs)) (beyond : Ratio) (d : ℤ) (is : Is beyond d (length xs)) where
+-- Of a limit that lies D/n beyond the mean, for V above 0; there are two readings at the least then.
+module _ (xs : List ℤ) (above : pos 0 <ℤ spread (totals (length xs) xs)) (beyond : Ratio) (d : ℤ) (is : Is beyond d (length xs)) where
   abbrev n : ℕ
   n = length xs
 
@@ -38,11 +38,11 @@ module _ (xs : List ℤ) (some : 2 ≤ length xs) (above : pos 0 <ℤ spread (to
 
   -- n·V and D² as natural numbers
   under : 1 ≤ n * natAbs v
-  under = mul-pos {m = n} (omega arith) (omega (arith, natAbs-parts v, lt-read above))
+  under = mul-pos {m = n} (omega (arith, spread-needs-two xs above)) (omega (arith, natAbs-parts v, lt-read above))
 
   squared : Is (q .square) (pos (natAbs d * natAbs d) *ℤ pos (n - 1)) (n * natAbs v)
   unfolding square
-  squared = rw (square-nat d) at (index-squared-is xs some above beyond d is)
+  squared = rw (square-nat d) at (index-squared-is xs above beyond d is)
 
   encloses : (k : ℕ) → nearest n v d ≡ k → Encloses n (pos (natAbs v)) d k
   encloses k e = rw (natAbs-pos (<ℤ→≤ℤ above)) (row-exactly-when-enclosing n v d (<ℤ→≤ℤ above) k .0 e)

@@ -7,7 +7,7 @@ use native.Mathlib.Omega.{arith}
 use lib.IntN.{ℤ, pos, _-ℤ_}
 use lib.ListN.{length}
 use lib.Signed.{_≤ℤ_, _<ℤ_, ≤ℤ-refl, clashℤ}
-use Rattle.integers.proofs.Order.{≤ℤ-antisym, ≤ℤ-total, le-leZ, lt-leZ, lt-ltZ, le-ltZ}
+use Rattle.integers.proofs.Order.{≤ℤ-total, le-leZ, lt-leZ, lt-ltZ, le-ltZ}
 use Rattle.rules.specs.declared.Limit.{Limit}
 use Rattle.rules.specs.declared.Limit.the-variants.{Absent, At}
 use Rattle.rules.specs.declared.Percentages.{Percentages}
@@ -21,7 +21,7 @@ use Rattle.laws.specs.Reached.{reached}
 use Rattle.laws.specs.AllEqual.{AllEqual}
 use Rattle.laws.specs.Moved.{Counted}
 use Rattle.laws.specs.AsPublished.{SideAsPublished, UpperAsPublished, LowerAsPublished, AsPublished}
-use Rattle.laws.proofs.Spread.{spread-never-negative, spread-zero-exactly-when-equal}
+use Rattle.laws.proofs.Spread.{spread-zero-exactly-when-equal, spread-above-exactly-when-unequal}
 use Rattle.laws.proofs.Value.{is-negative}
 use Rattle.laws.proofs.PublishedIndex.{upper-beyond-is, lower-beyond-is, index-sign-is}
 use Rattle.laws.proofs.PublishedRow.{row-is-nearest}
@@ -29,14 +29,9 @@ use Rattle.laws.proofs.Side.{reached-entry, reached-whole, side-inside,
 use Rattle.laws.proofs.Accepted.{answered}
 use Rattle.laws.proofs.NoClamp.{no-clamp}
 
--- What is not below zero is zero or more, and readings that are not all equal have a V above 0.
+-- What is not below zero is zero or more.
 not-below : (z : ℤ) → (z <ℤ pos 0 → ⊥) → pos 0 ≤ℤ z
 not-below z h = ⊎-elim (λ k. k) (λ k. absurd (h k)) (≤ℤ-total (pos 0) z)
-
-pub unequal-spread : (xs : List ℤ) → (AllEqual xs → ⊥) → pos 0 <ℤ spread (totals (length xs) xs)
-unequal-spread xs h =
-    ⊎-elim (λ k. absurd (h (spread-zero-exactly-when-equal xs .0 (≤ℤ-antisym k (spread-never-negative xs))))) (λ k. k)
-    (≤ℤ-total (spread (totals (length xs) xs)) (pos 0))
 
 -- ---- a side whose limit lies D/n beyond the mean
 
@@ -66,7 +61,7 @@ module _ (column : List ℕ) (xs : List ℤ) (some : 2 ≤ length xs) (beyond : 
       record {
         by-the-table =
             λ unequal.
-            let above = unequal-spread xs unequal in
+            let above = spread-above-exactly-when-unequal xs .1 unequal in
             let sign = index-sign-is xs above beyond d is in
             record {
               row = nearest n v d;

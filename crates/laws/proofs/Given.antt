@@ -49,41 +49,41 @@ module _ {A H : Type 0} (host : Said A → H) (part : H → HostRefusal) (refusa
   begins (refused r) = refusals r
   begins (answers a) = none a
 
-  zero : (said : Said A) (r : H) → r ≡ host said → ZeroWhenAnswered (part r) said
-  zero said r e = subst⁻¹ (λ (x : HostRefusal). ZeroWhenAnswered x said) (ap part e ∙ begins said) (refusal-is-zero said)
+  zero-if-answered : (said : Said A) (r : H) → r ≡ host said → ZeroWhenAnswered (part r) said
+  zero-if-answered said r e = subst⁻¹ (λ (x : HostRefusal). ZeroWhenAnswered x said) (ap part e ∙ begins said) (refusal-is-zero said)
 
   given : (said : Said A) (r : H) → r ≡ host said → part r .number ≡ 0 → (a : A) × (said ≡ answers a) × (r ≡ host (answers a))
-  given said r e z = let h = zero said r e .0 z in (h .0, h .1, e ∙ ap host (h .1))
+  given said r e z = let h = zero-if-answered said r e .0 z in (h .0, h .1, e ∙ ap host (h .1))
 
 -- ---- each of C's answers
 
 pub zero-in-mean : (said : Said Mean) (r : HostMean) → r ≡ host-mean said → ZeroWhenAnswered (r .refusal) said
-zero-in-mean = zero host-mean (λ (r : HostMean). r .refusal) (λ r. refl) (λ a. refl)
+zero-in-mean = zero-if-answered host-mean (λ (r : HostMean). r .refusal) (λ r. refl) (λ a. refl)
 
 pub zero-in-deviation : (said : Said Thousandths) (r : HostDeviation) → r ≡ host-deviation said → ZeroWhenAnswered (r .refusal) said
-zero-in-deviation = zero host-deviation (λ (r : HostDeviation). r .refusal) (λ r. refl) (λ a. refl)
+zero-in-deviation = zero-if-answered host-deviation (λ (r : HostDeviation). r .refusal) (λ r. refl) (λ a. refl)
 
 pub zero-in-percentages : (said : Said Percentages) (r : HostPercentages) → r ≡ host-percentages said → ZeroWhenAnswered (r .refusal) said
-zero-in-percentages = zero host-percentages (λ (r : HostPercentages). r .refusal) (λ r. refl) (λ a. refl)
+zero-in-percentages = zero-if-answered host-percentages (λ (r : HostPercentages). r .refusal) (λ r. refl) (λ a. refl)
 
 pub zero-in-payment : (said : Said Payment) (r : HostPayment) → r ≡ host-payment said → ZeroWhenAnswered (r .refusal) said
-zero-in-payment = zero host-payment (λ (r : HostPayment). r .refusal) (λ r. refl) (λ a. refl)
+zero-in-payment = zero-if-answered host-payment (λ (r : HostPayment). r .refusal) (λ r. refl) (λ a. refl)
 
 pub zero-in-mixture-limits : (said : Said MixtureLimits) (r : HostMixtureLimits) → r ≡ host-mixture-limits said → ZeroWhenAnswered (r .refusal) said
-zero-in-mixture-limits = zero host-mixture-limits (λ (r : HostMixtureLimits). r .refusal) (λ r. refl) (λ a. refl)
+zero-in-mixture-limits = zero-if-answered host-mixture-limits (λ (r : HostMixtureLimits). r .refusal) (λ r. refl) (λ a. refl)
 
 pub zero-in-written : (said : Said ℕ) (r : HostWritten) → r ≡ host-written said → ZeroWhenAnswered (r .refusal) said
-zero-in-written = zero host-written (λ (r : HostWritten). r .refusal) (λ r. refl) (λ a. refl)
+zero-in-written = zero-if-answered host-written (λ (r : HostWritten). r .refusal) (λ r. refl) (λ a. refl)
 
 pub zero-in-row : (said : Said Row) (r : HostRow) → r ≡ host-row said → ZeroWhenAnswered (r .refusal) said
-zero-in-row = zero host-row (λ (r : HostRow). r .refusal) (λ r. refl) (λ a. refl)
+zero-in-row = zero-if-answered host-row (λ (r : HostRow). r .refusal) (λ r. refl) (λ a. refl)
 
 -- a lot that was read
 abbrev host-lot-read : Said Lot → HostRead
 host-lot-read said = host-read (beside said)
 
 pub zero-in-read : (said : Said Lot) (r : HostRead) → r ≡ host-read (beside said) → ZeroWhenAnswered (r .refusal) said
-zero-in-read = zero host-lot-read (λ (r : HostRead). r .refusal) (λ r. refl) (λ a. refl)
+zero-in-read = zero-if-answered host-lot-read (λ (r : HostRead). r .refusal) (λ r. refl) (λ a. refl)
 
 -- ---- the answers that laws speak of
 

@@ -1,5 +1,5 @@
 -- The record's returns through C's structs: of what `tulpavice_write` and `tulpavice_read` give, and of the lent bytes.
-use mathlib.Core.Path.{_≡_, refl, sym, ap, _∙_}
+use mathlib.Core.Path.{_≡_, refl, ap, _∙_}
 use mathlib.Core.List.{List, [], _∷_, _++_, map}
 use Prim.Native.Nat.{ℕ, zero, suc, _≤_}
 use native.Mathlib.Omega.{arith}
@@ -13,14 +13,14 @@ use Rattle.rules.specs.declared.host.HostLot.{HostLot}
 use Rattle.rules.specs.declared.host.HostRead.{HostRead}
 use Rattle.rules.specs.declared.host.HostWritten.{HostWritten}
 use Rattle.rules.specs.Units.{thousandths}
-use Rattle.rules.specs.Said.{Said, answers}
+use Rattle.rules.specs.Said.{answers}
 use Rattle.rules.specs.Lot.{Lot, most, plain, lot-in}
-use Rattle.rules.specs.Entries.{read-says, held, beside, read-leaves, write-says, after-write}
+use Rattle.rules.specs.Entries.{read-says, held, read-leaves, write-says, after-write}
 use Rattle.rules.specs.Host.{held-limit, held-lot, limit-numbers, host-lot, host-read, host-written}
 use Rattle.laws.specs.Bytes.{Bytes}
 use Rattle.laws.proofs.Lots.{lot-in-counted}
 use Rattle.laws.proofs.Returns.{read-is-held, read-has-all-places, write-reads-back, read-writes-back}
-use Rattle.laws.proofs.Given.{zero-in-written, zero-in-read, written-given}
+use Rattle.laws.proofs.Given.{zero-in-read, written-given}
 
 -- ---- a lot in memory, handed to C and back
 

@@ -20,6 +20,7 @@ pub mod Accepted
 pub mod Largest
 pub mod Row
 pub mod NearestRow
+pub mod SquaresOff
 pub mod PublishedIndex
 pub mod PublishedRow
 pub mod Nearest

@@ -1,15 +1,14 @@
 -- A row whose midpoints enclose an index is the nearest by distance, of two that are as near the greater; and there is one such row.
 use mathlib.Core.Path.{_≡_, subst}
-use mathlib.Core.Logic.{_⊎_, inl, inr, ⊎-elim, _↔_}
-use Prim.Native.Nat.{ℕ, suc, _+_, _*_, _≤_, _<_}
+use Prim.Native.Nat.{ℕ, _+_, _*_, _≤_, _<_}
 use native.Mathlib.Nat.{mul-le-mul-right}
 use native.Mathlib.Decide.{decLt, decLe}
 use native.Mathlib.Omega.{arith}
-use lib.IntN.{ℤ, pos, _-ℤ_}
+use lib.IntN.{pos, _-ℤ_}
 use Rattle.integers.proofs.Difference.{var, nat, diff-le, le-diff, lt-diff, _⊕_, _⊖_, _⊗_}
 use Rattle.rules.specs.Table.{last-row}
 use Rattle.laws.specs.Ratio.{Ratio, ratio, plus, minus, AtMost, Less}
-use Rattle.laws.specs.Root.{Root, UpTo, RootUpTo, RootBelow}
+use Rattle.laws.specs.Root.{Root}
 use Rattle.laws.specs.NearestRow.{row-index, BetweenMidpoints, Within, AsNear, NearestRow}
 use Rattle.laws.proofs.Root.{up-to-falls, root-up-to-grows, across, across-below, below-up-to}
 

@@ -1,54 +1,25 @@
 -- The published mean, deviation and index in document 01's numbers: x̄ is T/n, S² is V/(n·(n − 1)), Q² is (n − 1)·D²/(n·V), and Q has the sign of D.
-use mathlib.Core.Path.{_≡_, refl, sym, ap, _∙_}
+use mathlib.Core.Path.{sym, ap, _∙_}
 use mathlib.Core.Logic.{_↔_}
-use mathlib.Core.List.{List, [], _∷_, map, map-id}
-use Prim.Native.Nat.{ℕ, suc, _-_, _*_, _≤_}
+use mathlib.Core.List.{List, map-id}
+use Prim.Native.Nat.{ℕ, _-_, _*_, _≤_}
 use native.Mathlib.Nat.{mul-pos}
 use native.Mathlib.Omega.{arith}
-use lib.IntN.{ℤ, pos, natAbs, _+ℤ_, _-ℤ_, _*ℤ_, *ℤ-comm}
+use lib.IntN.{ℤ, pos, natAbs, _-ℤ_, _*ℤ_, *ℤ-comm}
 use lib.ListN.{length}
-use lib.Signed.{_≤ℤ_, _<ℤ_}
-use Rattle.integers.proofs.Difference.{var, nat, diff-eq, eq-diff, lt-diff, lt-read, _⊕_, _⊖_, _⊗_}
-use Rattle.integers.proofs.Ring.{*ℤ-distrib-l, *ℤ-assoc}
+use lib.Signed.{_<ℤ_}
+use Rattle.integers.proofs.Difference.{var, nat, diff-eq, lt-read, _⊗_}
+use Rattle.integers.proofs.Ring.{*ℤ-assoc}
 use Rattle.integers.proofs.Order.{<ℤ→≤ℤ}
 use Rattle.integers.proofs.Magnitude.{natAbs-parts, natAbs-mul, natAbs-pos}
 use Rattle.integers.proofs.Square.{square, square-nat, signed, signed-<}
-use Rattle.rules.specs.Percent.{sum, squares, totals, spread, upper-distance, lower-distance}
+use Rattle.rules.specs.Percent.{sum, totals, spread, upper-distance, lower-distance}
 use Rattle.laws.specs.Ratio.{Ratio, whole, minus, Is}
 use Rattle.laws.specs.Root.{Root, BelowZero, magnitude}
 use Rattle.laws.specs.PublishedIndex.{published-mean, squared-off, published-deviation, upper-beyond, lower-beyond, published-index}
+use Rattle.laws.proofs.Spread.{spread-needs-two}
+use Rattle.laws.proofs.SquaresOff.{off-squares-spread}
 use Rattle.laws.proofs.Value.{is-whole, is-also, is-minus, is-times, is-shared, is-quotient, is-signed-square, is-magnitude, one-sign, is-negative, is-total}
-
--- (m·y − t)², and its sum over some readings
-off-square : (m : ℕ) (t y : ℤ) → (y *ℤ pos m -ℤ t) *ℤ (y *ℤ pos m -ℤ t) ≡ (pos (m * m) *ℤ (y *ℤ y) +ℤ t *ℤ t) -ℤ pos (2 * m) *ℤ (t *ℤ y)
-off-square m t y =
-    diff-eq ((var y ⊗ nat m ⊖ var t) ⊗ (var y ⊗ nat m ⊖ var t)) (nat (m * m) ⊗ (var y ⊗ var y) ⊕ var t ⊗ var t ⊖ nat (2 * m) ⊗ (var t ⊗ var y)) (omega arith)
-
-one-more :
-    (m k l : ℕ) (f s a z c b d : ℤ) →
-    f ≡ (pos m *ℤ a +ℤ c) -ℤ pos k *ℤ b →
-    s ≡ (pos m *ℤ z +ℤ pos l *ℤ c) -ℤ pos k *ℤ d →
-    f +ℤ s ≡ (pos m *ℤ (a +ℤ z) +ℤ pos (suc l) *ℤ c) -ℤ pos k *ℤ (b +ℤ d)
-one-more m k l f s a z c b d e h =
-    diff-eq (var f ⊕ var s) (nat m ⊗ (var a ⊕ var z) ⊕ nat (suc l) ⊗ var c ⊖ nat k ⊗ (var b ⊕ var d))
-    (omega (arith, eq-diff (var f) (nat m ⊗ var a ⊕ var c ⊖ nat k ⊗ var b) e, eq-diff (var s) (nat m ⊗ var z ⊕ nat l ⊗ var c ⊖ nat k ⊗ var d) h))
-
-off-squares :
-    (m : ℕ) (t : ℤ) (ys : List ℤ) →
-    sum (map (λ (y : ℤ). (y *ℤ pos m -ℤ t) *ℤ (y *ℤ pos m -ℤ t)) ys) ≡ (pos (m * m) *ℤ squares ys +ℤ pos (length ys) *ℤ (t *ℤ t)) -ℤ pos (2 * m) *ℤ (t *ℤ sum ys)
-unfolding sum squares
-off-squares m t [] = diff-eq (nat 0) (nat (m * m) ⊗ nat 0 ⊕ nat 0 ⊗ (var t ⊗ var t) ⊖ nat (2 * m) ⊗ (var t ⊗ nat 0)) (omega arith)
-off-squares m t (y ∷ ys) =
-    one-more (m * m) (2 * m) (length ys) _ _ (y *ℤ y) (squares ys) (t *ℤ t) (t *ℤ y) (t *ℤ sum ys) (off-square m t y) (off-squares m t ys)
-    ∙ ap (λ (x : ℤ). (pos (m * m) *ℤ (y *ℤ y +ℤ squares ys) +ℤ pos (suc (length ys)) *ℤ (t *ℤ t)) -ℤ pos (2 * m) *ℤ x) (sym (*ℤ-distrib-l t y (sum ys)))
-
--- Fewer than two readings have a V of 0.
-pub spread-needs-two : (xs : List ℤ) → pos 0 <ℤ spread (totals (length xs) xs) → 2 ≤ length xs
-unfolding spread sum squares
-spread-needs-two [] h = absurd (h .lt)
-spread-needs-two (x ∷ []) h =
-    absurd (omega (arith, lt-diff (nat 0) (nat 1 ⊗ (var x ⊗ var x ⊕ nat 0) ⊖ (var x ⊕ nat 0) ⊗ (var x ⊕ nat 0)) h))
-spread-needs-two (x ∷ y ∷ ys) h = omega arith
 
 module _ (xs : List ℤ) where
   -- n, T and V
@@ -60,11 +31,6 @@ module _ (xs : List ℤ) where
 
   abbrev v : ℤ
   v = spread (totals (length xs) xs)
-
-  -- They come to n·V.
-  off-squares-spread : sum (map (λ (y : ℤ). (y *ℤ pos n -ℤ t) *ℤ (y *ℤ pos n -ℤ t)) xs) ≡ pos n *ℤ v
-  unfolding spread
-  off-squares-spread = off-squares n t xs ∙ diff-eq (nat (n * n) ⊗ var (squares xs) ⊕ nat n ⊗ (var t ⊗ var t) ⊖ nat (2 * n) ⊗ (var t ⊗ var t)) (nat n ⊗ (nat n ⊗ var (squares xs) ⊖ var t ⊗ var t)) (omega arith)
 
   -- (1)
   pub mean-is : 1 ≤ n → Is (published-mean xs) t n
@@ -87,7 +53,7 @@ module _ (xs : List ℤ) where
       let least : 1 ≤ n = omega arith in
       let less : 1 ≤ n - 1 = omega arith in
       is-also (is-shared less (is-total (squared-off (published-mean xs)) _ (n * n) (λ x. is-times (off x) (off x)) xs)) (mul-pos (mul-pos least least) less)
-      (ap (λ (x : ℤ). x *ℤ pos (n * (n - 1))) off-squares-spread ∙ diff-eq (nat n ⊗ var v ⊗ nat (n * (n - 1))) (var v ⊗ nat (n * n * (n - 1))) (omega arith))
+      (ap (λ (x : ℤ). x *ℤ pos (n * (n - 1))) (off-squares-spread xs) ∙ diff-eq (nat n ⊗ var v ⊗ nat (n * (n - 1))) (var v ⊗ nat (n * n * (n - 1))) (omega arith))
 
   pub upper-beyond-is : 1 ≤ n → (u : ℤ) → Is (upper-beyond u xs) (upper-distance (totals n xs) u) n
   unfolding upper-beyond upper-distance

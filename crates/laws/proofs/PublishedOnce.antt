@@ -1,31 +1,21 @@
 -- Documents 01 and 004 say what they say of one answer only: no second percentages are as published for the same readings, limits and column.
-use mathlib.Core.Path.{_≡_, sym, ap, _∙_, subst}
+use mathlib.Core.Path.{_≡_, sym, ap, _∙_}
 use mathlib.Core.List.{List}
-use mathlib.Core.Logic.{_⊎_, inl, inr, ⊎-elim}
+use mathlib.Core.Logic.{⊎-elim}
 use Prim.Native.Nat.{ℕ}
 use lib.IntN.{ℤ, pos, _+ℤ_, _-ℤ_}
-use lib.ListN.{length}
-use lib.Signed.{_≤ℤ_, ≤ℤ-refl, clashℤ}
-use Rattle.integers.proofs.Order.{≤ℤ-antisym, ≤ℤ-total}
+use lib.Signed.{clashℤ}
+use Rattle.integers.proofs.Order.{≤ℤ-total}
 use Rattle.rules.specs.declared.Limit.{Limit}
 use Rattle.rules.specs.declared.Limit.the-variants.{Absent, At}
 use Rattle.rules.specs.declared.Percentages.{Percentages}
 use Rattle.rules.specs.Units.{hundredths}
 use Rattle.rules.specs.Table.{entry}
-use Rattle.rules.specs.Percent.{totals, spread}
 use Rattle.laws.specs.Ratio.{Ratio}
 use Rattle.laws.specs.Root.{Root, BelowZero}
-use Rattle.laws.specs.AllEqual.{AllEqual}
 use Rattle.laws.specs.AsPublished.{LookedUp, SideAsPublished, UpperAsPublished, LowerAsPublished, AsPublished}
-use Rattle.laws.proofs.Spread.{spread-never-negative, spread-zero-exactly-when-equal}
+use Rattle.laws.proofs.Spread.{all-equal-or-not}
 use Rattle.laws.proofs.NearestRow.{nearest-determined}
-
--- Readings are all equal, or they are not: V is 0 or above.
-all-equal-or-not : (xs : List ℤ) → AllEqual xs ⊎ (AllEqual xs → ⊥)
-all-equal-or-not xs =
-    let equal = spread-zero-exactly-when-equal xs in
-    ⊎-elim (λ k. inl (equal .0 (≤ℤ-antisym k (spread-never-negative xs))))
-    (λ k. inr (λ e. clashℤ k (subst (λ (z : ℤ). z ≤ℤ pos 0) (sym (equal .1 e)) (≤ℤ-refl _)))) (≤ℤ-total (spread (totals (length xs) xs)) (pos 0))
 
 looked-up-once : {column : List ℕ} {q : Root} {s r : ℤ} → LookedUp column q s → LookedUp column q r → s ≡ r
 looked-up-once {column} {q} h k =

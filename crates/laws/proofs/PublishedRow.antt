@@ -1,25 +1,25 @@
 -- The row of document 01's squared rule is the row of the table that is nearest the published index, for any readings not all equal.
-use mathlib.Core.Path.{_≡_, refl, sym, _∙_, subst}
-use mathlib.Core.Logic.{_⊎_, inl, inr, ⊎-elim, _↔_}
+use mathlib.Core.Path.{_≡_, refl}
+use mathlib.Core.Logic.{⊎-elim, _↔_}
 use mathlib.Core.List.{List}
-use Prim.Native.Nat.{ℕ, zero, suc, _+_, _-_, _*_, _≤_, _<_, zero-le}
+use Prim.Native.Nat.{ℕ, _-_, _*_, _≤_}
 use native.Mathlib.Nat.{mul-pos}
 use native.Mathlib.Omega.{arith}
-use lib.IntN.{ℤ, pos, natAbs, _-ℤ_, _*ℤ_}
+use lib.IntN.{ℤ, pos, natAbs, _*ℤ_}
 use lib.ListN.{length}
-use lib.Signed.{_≤ℤ_, _<ℤ_}
-use Rattle.integers.proofs.Difference.{var, nat, diff-eq, diff-le, diff-lt, arithℤ, le-read, lt-read, ⊝_, _⊖_, _⊗_}
+use lib.Signed.{_<ℤ_}
+use Rattle.integers.proofs.Difference.{le-read, lt-read}
 use Rattle.integers.proofs.Order.{<ℤ→≤ℤ}
 use Rattle.integers.proofs.Magnitude.{natAbs-parts, natAbs-pos}
 use Rattle.integers.proofs.Square.{square, square-nat}
-use Rattle.rules.specs.Table.{last-row}
 use Rattle.rules.specs.Percent.{totals, spread, nearest}
-use Rattle.laws.specs.Ratio.{Ratio, ratio, Is, AtMost, Less}
-use Rattle.laws.specs.Root.{signed-square, Root, magnitude}
+use Rattle.laws.specs.Ratio.{Ratio, Is}
+use Rattle.laws.specs.Root.{Root, magnitude}
 use Rattle.laws.specs.PublishedIndex.{published-index}
 use Rattle.laws.specs.NearestRow.{BetweenMidpoints, NearestRow}
 use Rattle.laws.proofs.Root.{midpoint-up-to, midpoint-above}
-use Rattle.laws.proofs.PublishedIndex.{spread-needs-two, index-squared-is}
+use Rattle.laws.proofs.PublishedIndex.{index-squared-is}
+use Rattle.laws.proofs.Spread.{spread-needs-two}
 use Rattle.laws.proofs.Row.{Encloses, row-exactly-when-enclosing}
 use Rattle.laws.proofs.NearestRow.{enclosing-is-nearest, nearest-determined}
 

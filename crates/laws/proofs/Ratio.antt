@@ -1,16 +1,13 @@
 -- Fractions: their order, and the values of sums, differences, products and quotients.
-use mathlib.Core.Path.{_≡_, ap, ap₂, subst}
-use mathlib.Core.List.{List, [], _∷_, map}
-use Prim.Native.Nat.{ℕ, _*_, _≤_}
-use native.Mathlib.Nat.{le-refl, mul-le-mul, mul-le-mul-left, mul-le-mul-right}
+use mathlib.Core.Path.{subst}
+use Prim.Native.Nat.{_≤_}
+use native.Mathlib.Nat.{mul-le-mul-right}
 use native.Mathlib.Omega.{arith}
-use lib.IntN.{ℤ, pos, negsuc, natAbs, _+ℤ_, _-ℤ_, _*ℤ_}
-use lib.Signed.{_≤ℤ_, _<ℤ_, ≤ℤ-refl}
-use Rattle.integers.proofs.Difference.{var, nat, diff-eq, eq-diff, diff-le, le-diff, diff-lt, lt-diff, lt-read, _⊕_, _⊖_, _⊗_}
+use lib.IntN.{ℤ, pos, _*ℤ_}
+use lib.Signed.{_≤ℤ_, ≤ℤ-refl}
+use Rattle.integers.proofs.Difference.{var, nat, diff-le, le-diff, diff-lt, lt-diff, _⊗_}
 use Rattle.integers.proofs.Order.{*ℤ-cancel-≤, *ℤ-cancel-<}
-use Rattle.rules.specs.Percent.{sum}
-use Rattle.laws.specs.Ratio.{Ratio, ratio, whole, plus, minus, times, shared, quotient, Same, AtMost, Less}
-use Rattle.laws.specs.PublishedIndex.{total}
+use Rattle.laws.specs.Ratio.{Ratio, Same, AtMost, Less}
 
 -- ---- order
 

@@ -5,12 +5,12 @@ use Prim.Native.Nat.{ℕ, zero, suc, _+_, _-_, _*_, _≤_, _<_}
 use native.Mathlib.Nat.{mul-le-mul}
 use native.Mathlib.Omega.{arith}
 use lib.IntN.{ℤ, pos, _-ℤ_, _*ℤ_}
-use lib.Signed.{_≤ℤ_, _<ℤ_}
+use lib.Signed.{_≤ℤ_}
 use Rattle.integers.proofs.Difference.{var, nat, diff-eq, diff-le, lt-diff, diff-lt, ⊝_, _⊕_, _⊖_, _⊗_}
 use Rattle.integers.proofs.Order.{≤ℤ-antisym, <ℤ→≤ℤ, pos-mono}
 use Rattle.integers.proofs.Square.{signed, signed-≤, signed-<, signed-scaled}
 use Rattle.laws.specs.Ratio.{Ratio, ratio, Same, Is, AtMost, Less}
-use Rattle.laws.specs.Root.{signed-square, Root, root, UpTo, RootUpTo, RootBelow, HalfUpRoot}
+use Rattle.laws.specs.Root.{signed-square, Root, UpTo, RootUpTo, RootBelow, HalfUpRoot}
 use Rattle.laws.proofs.Ratio.{at-most-trans, at-most-less, same-at-most}
 use Rattle.laws.proofs.Value.{is-above, is-below}
 

@@ -1,14 +1,14 @@
 -- V is never negative, and 0 exactly when all readings are equal: it is the sum over pairs of their squared differences.
 use mathlib.Core.Path.{_≡_, refl, sym, ap, _∙_}
-use mathlib.Core.List.{List, [], _∷_, List·Memᴰ, List·Memᴰ·head, List·Memᴰ·tail, List·Memᴰ·cases-cons, List·Memᴰ·not-nil}
-use mathlib.Core.Logic.{_↔_, ⊎-elim}
-use Prim.Native.Nat.{ℕ, suc, _+_, _*_, zero-le}
+use mathlib.Core.List.{List, [], _∷_, List·Memᴰ, List·Memᴰ·head, List·Memᴰ·tail, List·Memᴰ·cases-cons, List·Memᴰ·not-nil, List·Memᴰ·eq-of-singleton}
+use mathlib.Core.Logic.{_⊎_, inl, inr, _↔_, ⊎-elim}
+use Prim.Native.Nat.{ℕ, suc, _+_, _*_, _≤_, zero-le}
 use native.Mathlib.Omega.{arith}
 use lib.IntN.{ℤ, pos, natAbs, _+ℤ_, _-ℤ_, _*ℤ_}
 use lib.ListN.{length}
-use lib.Signed.{_≤ℤ_}
+use lib.Signed.{_≤ℤ_, _<ℤ_, ≤ℤ-refl, clashℤ}
 use Rattle.integers.proofs.Difference.{var, nat, diff-eq, eq-diff, arithℤ, _⊕_, _⊖_, _⊗_}
-use Rattle.integers.proofs.Order.{pos-mono}
+use Rattle.integers.proofs.Order.{≤ℤ-antisym, ≤ℤ-total, pos-mono}
 use Rattle.integers.proofs.Square.{square, square-nat, square-zero}
 use Rattle.rules.specs.Percent.{sum, squares, totals, spread}
 use Rattle.laws.specs.AllEqual.{AllEqual}
@@ -103,3 +103,25 @@ spread-zero-exactly-when-equal xs = (
   λ e. pairs-zero xs .0 (ap natAbs (sym (spread-pairs xs) ∙ e)),
   λ h. spread-pairs xs ∙ ap pos (pairs-zero xs .1 h),
 )
+
+not-above : (xs : List ℤ) → spread (totals (length xs) xs) ≤ℤ pos 0 → AllEqual xs
+not-above xs h = spread-zero-exactly-when-equal xs .0 (≤ℤ-antisym h (spread-never-negative xs))
+
+pub spread-above-exactly-when-unequal : (xs : List ℤ) → (pos 0 <ℤ spread (totals (length xs) xs)) ↔ (AllEqual xs → ⊥)
+spread-above-exactly-when-unequal xs = (
+  λ h e. clashℤ h (rw (spread-zero-exactly-when-equal xs .1 e) (≤ℤ-refl (pos 0))),
+  λ unequal. ⊎-elim (λ h. absurd (unequal (not-above xs h))) (λ h. h) (≤ℤ-total (spread (totals (length xs) xs)) (pos 0)),
+)
+
+pub all-equal-or-not : (xs : List ℤ) → AllEqual xs ⊎ (AllEqual xs → ⊥)
+all-equal-or-not xs =
+    ⊎-elim (λ h. inl (not-above xs h)) (λ h. inr (spread-above-exactly-when-unequal xs .0 h)) (≤ℤ-total (spread (totals (length xs) xs)) (pos 0))
+
+-- So there are two readings at the least where V is above 0.
+pub spread-needs-two : (xs : List ℤ) → pos 0 <ℤ spread (totals (length xs) xs) → 2 ≤ length xs
+spread-needs-two xs h = by xs (spread-above-exactly-when-unequal xs .0 h)
+  where
+    by : (ys : List ℤ) → (AllEqual ys → ⊥) → 2 ≤ length ys
+    by [] unequal = absurd (unequal (λ y w m k. absurd (List·Memᴰ·not-nil m)))
+    by (x ∷ []) unequal = absurd (unequal (λ y w m k. List·Memᴰ·eq-of-singleton m ∙ sym (List·Memᴰ·eq-of-singleton k)))
+    by (x ∷ y ∷ ys) unequal = omega arith

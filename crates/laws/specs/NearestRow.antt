@@ -24,11 +24,12 @@ pub record BetweenMidpoints (q : Root) (k : ℕ) : Type 0 where
 abbrev pub Within : Ratio → Root → ℕ → Type 0
 Within d q k = UpTo (minus (row-index k) d) q × RootUpTo q (plus (row-index k) d)
 
--- Row k is as near as row j: within whatever distance the index lies of row j's, it lies of row k's.
+-- Row k is as near as row j: within whatever distance the index lies of row j's, it lies of row k's. Distances that are fractions will do, since
+-- there is one between any two numbers.
 abbrev pub AsNear : Root → ℕ → ℕ → Type 0
 AsNear q k j = (d : Ratio) → 1 ≤ d .under → Within d q j → Within d q k
 
--- No row of the table is nearer than row k, and none that is as near is greater: a tie goes away from zero.
+-- Row k is the nearest: no row of the table is nearer, and none that is as near is greater, so that a tie goes away from zero.
 pub record NearestRow (q : Root) (k : ℕ) : Type 0 where
   pub in-table : k ≤ last-row
   pub none-nearer : (j : ℕ) → j ≤ last-row → AsNear q k j

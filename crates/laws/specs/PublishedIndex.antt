@@ -1,10 +1,10 @@
 -- Mean, standard deviation and quality index as documents 003 and 004 print them, unrounded: of readings and limits in whole thousandths,
 -- by the numbers of document 004's equations.
 use mathlib.Core.List.{List, [], _∷_, map}
-use Prim.Native.Nat.{ℕ, _-_}
+use Prim.Native.Nat.{_-_}
 use lib.IntN.{ℤ, pos}
 use lib.ListN.{length}
-use Rattle.laws.specs.Ratio.{Ratio, ratio, whole, plus, minus, times, shared}
+use Rattle.laws.specs.Ratio.{Ratio, whole, plus, minus, times, shared}
 use Rattle.laws.specs.Root.{Root, root, over-root}
 
 -- Σ

@@ -1,5 +1,5 @@
 -- Numbers that need not be fractions, as a deviation and an index are: roots, each known by its signed square.
-use Prim.Native.Nat.{ℕ, _*_}
+use Prim.Native.Nat.{_*_}
 use lib.IntN.{ℤ, pos, natAbs, _+ℤ_, _-ℤ_, _*ℤ_}
 use lib.Signed.{_<ℤ_}
 use Rattle.laws.specs.Ratio.{Ratio, ratio, quotient, AtMost, Less}
@@ -8,7 +8,7 @@ use Rattle.laws.specs.Ratio.{Ratio, ratio, quotient, AtMost, Less}
 abbrev pub signed-square : Ratio → Ratio
 signed-square f = ratio (f .top *ℤ pos (natAbs (f .top))) (f .under * f .under)
 
--- The number x for which x·|x| is this fraction. Of 0 or more, it is the square root.
+-- The number x for which x·|x| is this fraction; where that is 0 or more, its square root.
 pub record Root : Type 0 where
   pub square : Ratio
 
@@ -30,7 +30,7 @@ pub record RootBelow (x : Root) (f : Ratio) : Type 0 where
 abbrev pub BelowZero : Root → Type 0
 BelowZero x = x .square .top <ℤ pos 0
 
--- |x|
+-- |x|, whose square is x·|x| without its sign
 abbrev pub magnitude : Root → Root
 magnitude x = root (ratio (pos (natAbs (x .square .top))) (x .square .under))
 

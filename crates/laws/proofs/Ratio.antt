@@ -1,18 +1,16 @@
--- Fractions: their order, and the values of sums, differences, products and quotients.
-use mathlib.Core.Path.{subst}
-use Prim.Native.Nat.{_≤_}
+-- Fractions: their order, which goes by what they come to.
+use mathlib.Core.Path.{sym, subst}
+use Prim.Native.Nat.{ℕ, _≤_}
 use native.Mathlib.Nat.{mul-le-mul-right}
 use native.Mathlib.Omega.{arith}
 use lib.IntN.{ℤ, pos, _*ℤ_}
 use lib.Signed.{_≤ℤ_, ≤ℤ-refl}
 use Rattle.integers.proofs.Difference.{var, nat, diff-le, le-diff, diff-lt, lt-diff, _⊗_}
 use Rattle.integers.proofs.Order.{*ℤ-cancel-≤, *ℤ-cancel-<}
-use Rattle.laws.specs.Ratio.{Ratio, Same, AtMost, Less}
-
--- ---- order
+use Rattle.laws.specs.Ratio.{Ratio, ratio, Same, Is, AtMost, Less}
 
 module _ {x y z : Ratio} where
-  -- a ≤ b ≤ c, times what is under the third of each two
+  -- Each order is taken times what is under the third fraction; what is under the second then stands on both sides.
   pub at-most-trans : 1 ≤ y .under → AtMost x y → AtMost y z → AtMost x z
   at-most-trans some h k =
       let first = le-diff (var (x .top) ⊗ nat (y .under)) (var (y .top) ⊗ nat (x .under)) (h .order) in
@@ -38,3 +36,17 @@ module _ {x y z : Ratio} where
 -- Of one value, neither is above the other.
 pub same-at-most : (x y : Ratio) → Same x y → AtMost x y
 same-at-most x y e = record { order = subst (λ (z : ℤ). (x .top *ℤ pos (y .under)) ≤ℤ z) e (≤ℤ-refl _) }
+
+-- A fraction stands to x as it does to what x comes to.
+module _ {x : Ratio} {a : ℤ} {u : ℕ} (some : 1 ≤ u) (is : Is x a u) where
+  to : AtMost x (ratio a u)
+  to = same-at-most x (ratio a u) (is .same)
+
+  from : AtMost (ratio a u) x
+  from = same-at-most (ratio a u) x (sym (is .same))
+
+  pub is-above : {f : Ratio} → AtMost f (ratio a u) → AtMost f x
+  is-above h = at-most-trans some h from
+
+  pub is-below : {f : Ratio} → Less (ratio a u) f → Less x f
+  is-below h = at-most-less (is .proper) to h

@@ -11,8 +11,7 @@ use Rattle.integers.proofs.Order.{≤ℤ-antisym, <ℤ→≤ℤ, pos-mono}
 use Rattle.integers.proofs.Square.{signed, signed-≤, signed-<, signed-scaled}
 use Rattle.laws.specs.Ratio.{Ratio, ratio, Same, Is, AtMost, Less}
 use Rattle.laws.specs.Root.{signed-square, Root, UpTo, RootUpTo, RootBelow, HalfUpRoot}
-use Rattle.laws.proofs.Ratio.{at-most-trans, at-most-less, same-at-most}
-use Rattle.laws.proofs.Value.{is-above, is-below}
+use Rattle.laws.proofs.Ratio.{at-most-trans, at-most-less, same-at-most, is-above, is-below}
 
 -- Squaring, with the sign, keeps the order of fractions.
 module _ (f g : Ratio) where

@@ -13,10 +13,9 @@ use Rattle.integers.proofs.Order.{*ℤ-cancel, *ℤ-cancel-<}
 use Rattle.integers.proofs.Magnitude.{natAbs-mul}
 use Rattle.integers.proofs.Square.{signed, signed-scaled}
 use Rattle.rules.specs.Percent.{sum}
-use Rattle.laws.specs.Ratio.{Ratio, ratio, whole, plus, minus, times, shared, quotient, Is, AtMost, Less}
+use Rattle.laws.specs.Ratio.{Ratio, whole, plus, minus, times, shared, quotient, Is}
 use Rattle.laws.specs.Root.{signed-square, Root, magnitude}
 use Rattle.laws.specs.PublishedIndex.{total}
-use Rattle.laws.proofs.Ratio.{at-most-trans, at-most-less, same-at-most}
 
 pub is-whole : (z : ℤ) → Is (whole z) z 1
 is-whole z = record { proper = omega arith; same = refl }
@@ -129,19 +128,3 @@ pub is-total : (f : ℤ → Ratio) (g : ℤ → ℤ) (u : ℕ) → ((x : ℤ) �
 unfolding total sum
 is-total f g u each [] = record { proper = omega arith; same = diff-eq (nat 0 ⊗ nat u) (nat 0) (omega arith) }
 is-total f g u each (x ∷ xs) = is-plus (each x) (is-total f g u each xs)
-
--- ---- order
-
-module _ {x : Ratio} {a : ℤ} {u : ℕ} (some : 1 ≤ u) (is : Is x a u) where
-  to : AtMost x (ratio a u)
-  to = same-at-most x (ratio a u) (is .same)
-
-  from : AtMost (ratio a u) x
-  from = same-at-most (ratio a u) x (sym (is .same))
-
-  -- A fraction stands to x as it does to a over u.
-  pub is-above : {f : Ratio} → AtMost f (ratio a u) → AtMost f x
-  is-above h = at-most-trans some h from
-
-  pub is-below : {f : Ratio} → Less (ratio a u) f → Less x f
-  is-below h = at-most-less (is .proper) to h

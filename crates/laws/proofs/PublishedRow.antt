@@ -12,14 +12,16 @@ use Rattle.integers.proofs.Difference.{le-read, lt-read}
 use Rattle.integers.proofs.Order.{<ℤ→≤ℤ}
 use Rattle.integers.proofs.Magnitude.{natAbs-parts, natAbs-pos}
 use Rattle.integers.proofs.Square.{square, square-nat}
-use Rattle.rules.specs.Percent.{totals, spread, nearest}
+use Rattle.rules.specs.declared.Totals.{Totals}
+use Rattle.rules.specs.Percent.{totals, spread, upper-distance, lower-distance, nearest}
 use Rattle.laws.specs.Ratio.{Ratio, Is}
 use Rattle.laws.specs.Root.{Root, magnitude}
-use Rattle.laws.specs.PublishedIndex.{published-index}
+use Rattle.laws.specs.PublishedIndex.{upper-beyond, lower-beyond, published-index}
+use Rattle.laws.specs.AllEqual.{AllEqual}
 use Rattle.laws.specs.NearestRow.{BetweenMidpoints, NearestRow}
 use Rattle.laws.proofs.Root.{midpoint-up-to, midpoint-above}
-use Rattle.laws.proofs.PublishedIndex.{index-squared-is}
-use Rattle.laws.proofs.Spread.{spread-needs-two}
+use Rattle.laws.proofs.PublishedIndex.{upper-beyond-is, lower-beyond-is, index-squared-is}
+use Rattle.laws.proofs.Spread.{spread-above-exactly-when-unequal, spread-needs-two}
 use Rattle.laws.proofs.Row.{Encloses, row-exactly-when-enclosing}
 use Rattle.laws.proofs.NearestRow.{enclosing-is-nearest, nearest-determined}
 
@@ -66,3 +68,21 @@ module _ (xs : List ℤ) (above : pos 0 <ℤ spread (totals (length xs) xs)) (be
     where
       found : (k : ℕ) → nearest n v d ≡ k → NearestRow q k
       found k e = enclosing-is-nearest q (squared .proper) k (row-is-between-midpoints k e)
+
+-- ---- of an upper and of a lower limit, for any readings not all equal
+
+module _ (xs : List ℤ) (unequal : AllEqual xs → ⊥) where
+  abbrev a : Totals
+  a = totals (length xs) xs
+
+  spread-above : pos 0 <ℤ spread a
+  spread-above = spread-above-exactly-when-unequal xs .1 unequal
+
+  some : 1 ≤ length xs
+  some = omega (arith, spread-needs-two xs spread-above)
+
+  pub upper-row-is-nearest : (u : ℤ) (k : ℕ) → (nearest (a .n) (spread a) (upper-distance a u) ≡ k) ↔ NearestRow (magnitude (published-index (upper-beyond u xs) xs)) k
+  upper-row-is-nearest u = row-is-nearest xs spread-above (upper-beyond u xs) (upper-distance a u) (upper-beyond-is xs some u)
+
+  pub lower-row-is-nearest : (l : ℤ) (k : ℕ) → (nearest (a .n) (spread a) (lower-distance a l) ≡ k) ↔ NearestRow (magnitude (published-index (lower-beyond l xs) xs)) k
+  lower-row-is-nearest l = row-is-nearest xs spread-above (lower-beyond l xs) (lower-distance a l) (lower-beyond-is xs some l)

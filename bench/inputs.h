@@ -25,7 +25,8 @@ struct lookup {
     int32_t target;
 };
 
-/* So many of each. A lot is evaluated from its places, as a whole and from its readings as bytes, and written into so much room. */
+/* So many of each. A lot is evaluated from its places, as a whole and from its readings as bytes, and written into so
+   much room. */
 struct inputs {
     size_t number;
     struct tulpavice_lot lots[MOST_INPUTS];

@@ -69,8 +69,8 @@ module _ (column : List ℕ) (xs : List ℤ) (some : 2 ≤ length xs) (beyond : 
               inside = λ h. inside (not-below d (λ k. h (sign .1 k))) ∙ ap pos (at-the-row above);
               outside = λ h. outside (sign .0 h) ∙ ap (λ (e : ℕ). pos 10000 -ℤ pos e) (at-the-row above);
             };
-        equal-within = λ e h. inside (not-below d (λ k. clashℤ (is-negative (omega arith) is .1 k) h)) ∙ ap pos (whole-side e);
-        equal-beyond = λ e h. outside (is-negative (omega arith) is .0 h) ∙ ap (λ (m : ℕ). pos 10000 -ℤ pos m) (whole-side e);
+        equal-within = λ e h. inside (not-below d (λ k. clashℤ (is-negative is .1 k) h)) ∙ ap pos (whole-side e);
+        equal-beyond = λ e h. outside (is-negative is .0 h) ∙ ap (λ (m : ℕ). pos 10000 -ℤ pos m) (whole-side e);
       }
 
 -- ---- both sides

@@ -5,6 +5,7 @@ use lib.IntN.{pos}
 use lib.ListN.{replicate}
 use lib.Ieee.{binary64, ofInt, div, ofBits}
 use Rattle.rules.specs.declared.Limit.the-variants.{Absent}
+use Rattle.rules.specs.declared.Row.{Row}
 use Rattle.rules.specs.declared.Refusal.the-variants.{Count}
 use Rattle.rules.specs.Said.{refused, answers, ruled}
 use Rattle.rules.specs.Table.{rows, table-106-1}
@@ -35,19 +36,12 @@ pub refused-row-is-zero :
 unfolding ofBits
 refused-row-is-zero = (refl, refl, refl)
 
--- The row in one answer: that of the voids lot, and a refused one's.
+-- The row in one answer: any row, and that of a refused lot.
 pub row-is-given :
-    (host-row (answers (row-of (pos 41600) 10 (pos 825) (pos 9128))) ≡
-    record {
-      refusal = record { number = 0 };
-      mean = ofBits binary64 4616369762039853220;
-      deviation = ofBits binary64 4605606158930437734;
-      pwl = ofBits binary64 4636123675905407058;
-    }) ×
-    (host-row (refused Count) ≡
-    record { refusal = record { number = 4 }; mean = ofBits binary64 0; deviation = ofBits binary64 0; pwl = ofBits binary64 0 })
-unfolding row-of div ofInt ofBits
-row-is-given = (refl, refl)
+    ((row : Row) → host-row (answers row) ≡ record { refusal = record { number = 0 }; mean = row .mean; deviation = row .deviation; pwl = row .pwl }) ×
+    (host-row (refused Count) ≡ record { refusal = record { number = 4 }; mean = ofBits binary64 0; deviation = ofBits binary64 0; pwl = ofBits binary64 0 })
+unfolding ofBits
+row-is-given = (λ row. refl, refl)
 
 -- D9 as bytes: of 0 and 1, with an upper limit of 1.
 pub d9-row : row-says (at 1) Absent (in-fours (pos 0 ∷ pos 1 ∷ [])) ≡ answers (row-of (pos 1) 2 (pos 1) (pos 7249))

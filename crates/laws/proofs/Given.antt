@@ -25,7 +25,7 @@ use Rattle.rules.specs.Lot.{Lot}
 use Rattle.rules.specs.Refusals.{number-of}
 use Rattle.rules.specs.Entries.{beside}
 use Rattle.rules.specs.Host.{refusal-part, no-refusal, host-refusal, host-mean, host-deviation, host-percentages, host-payment, host-mixture-limits, host-read, host-written, host-row}
-use Rattle.laws.specs.Given.{ZeroWhenAnswered, given-percentages}
+use Rattle.laws.specs.Given.{ZeroWhenAnswered, given-percentages, given-row-of}
 
 -- No refusal has the number 0.
 some-number : (r : Refusal) → number-of r ≡ 0 → ⊥
@@ -92,6 +92,16 @@ pub percentages-given :
 percentages-given said r e z =
     let h = given host-percentages (λ (x : HostPercentages). x .refusal) (λ x. refl) (λ a. refl) said r e z in
     h .1 ∙ ap (λ (x : HostPercentages). answers (given-percentages x)) (sym (h .2))
+
+pub mean-given : (said : Said Mean) (r : HostMean) → r ≡ host-mean said → r .refusal .number ≡ 0 → said ≡ answers (record { total = thousandths (r .total); count = r .count })
+mean-given said r e z =
+    let h = given host-mean (λ (x : HostMean). x .refusal) (λ x. refl) (λ a. refl) said r e z in
+    h .1 ∙ ap (λ (x : HostMean). answers (record { total = thousandths (x .total); count = x .count })) (sym (h .2))
+
+pub row-given : (said : Said Row) (r : HostRow) → r ≡ host-row said → r .refusal .number ≡ 0 → said ≡ answers (given-row-of r)
+row-given said r e z =
+    let h = given host-row (λ (x : HostRow). x .refusal) (λ x. refl) (λ a. refl) said r e z in
+    h .1 ∙ ap (λ (x : HostRow). answers (given-row-of x)) (sym (h .2))
 
 pub deviation-given : (said : Said Thousandths) (r : HostDeviation) → r ≡ host-deviation said → r .refusal .number ≡ 0 → said ≡ answers (thousandths (r .deviation))
 deviation-given said r e z =

@@ -70,9 +70,9 @@ module _ (upper lower : Limit) (bs : List ℕ) where
   n = length bs / 4
 
   -- The lot of some bytes is the lent list of the numbers that they spell.
-  listed : lent-lot upper lower bs ≡ lot-of upper lower (fours n bs)
+  pub lent-lot-is-listed : lent-lot upper lower bs ≡ lot-of upper lower (fours n bs)
   unfolding lent-lot
-  listed = λ i. record { n = sym (length-fours n bs) i; upper = upper; lower = lower; readings = fours n bs }
+  lent-lot-is-listed = λ i. record { n = sym (length-fours n bs) i; upper = upper; lower = lower; readings = fours n bs }
 
   -- Bytes whose size fits meet what a lot of those numbers does,
   pub fitting-meets : {A : Type 0} (a : A) → size-fits (length bs) ≡ true → ruled (row-meets bs (lent-lot upper lower bs)) a ≡ ruled (counted-meets (lot-of upper lower (fours n bs))) a
@@ -82,12 +82,12 @@ module _ (upper lower : Limit) (bs : List ℕ) where
       let lot : Lot = lent-lot upper lower bs in
       ruled-passed (bytes-count-case bs) (lot-meets lot) a (ap not e)
       ∙ sym (ruled-passed (count-case n) (lot-meets lot) a (ap not few))
-      ∙ ap (λ (l : Lot). ruled (counted-meets l) a) listed
+      ∙ ap (λ (l : Lot). ruled (counted-meets l) a) lent-lot-is-listed
 
   -- and after their size what a lot of those numbers does after its count.
   pub fitting-totals : size-fits (length bs) ≡ true → totalled (row-meets bs) (lent-lot upper lower bs) ≡ totalled lot-meets (lot-of upper lower (fours n bs))
   unfolding totalled row-meets
-  fitting-totals e = ruled-passed (bytes-count-case bs) _ _ (ap not e) ∙ ap (totalled lot-meets) listed
+  fitting-totals e = ruled-passed (bytes-count-case bs) _ _ (ap not e) ∙ ap (totalled lot-meets) lent-lot-is-listed
 
   module _ {t : TotalsAnswer} (e : totals-said t ≡ totalled (row-meets bs) (lent-lot upper lower bs)) where
     pub lent-accepted : {a : Totals} → t ≡ TotalsAnswer.Answers a → LentAccepted upper lower bs a

@@ -66,4 +66,5 @@ pub mod DeskRow
 pub mod Deviation
 pub mod PublishedDeviation
 pub mod PublishedAnswers
+pub mod RowAnswers
 pub mod Desk

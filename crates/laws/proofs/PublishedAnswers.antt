@@ -15,6 +15,7 @@ use Rattle.rules.specs.declared.Percentages.{Percentages}
 use Rattle.rules.specs.declared.Evaluation.{Evaluation}
 use Rattle.rules.specs.declared.HeldLot.{HeldLot}
 use Rattle.rules.specs.declared.host.HostLot.{HostLot}
+use Rattle.rules.specs.declared.host.HostMean.{HostMean}
 use Rattle.rules.specs.declared.host.HostDeviation.{HostDeviation}
 use Rattle.rules.specs.declared.host.HostPercentages.{HostPercentages}
 use Rattle.rules.specs.Units.{thousandths}
@@ -26,7 +27,7 @@ use Rattle.rules.specs.Meets.{readings-meet}
 use Rattle.rules.specs.Notebook.{lent-limit}
 use Rattle.rules.specs.Answers.{mean-said, deviation-said, evaluation-said}
 use Rattle.rules.specs.Entries.{mean-says, deviation-of, deviation-says, column-for, evaluation-says}
-use Rattle.rules.specs.Host.{host-deviation, host-percentages, given-lot, held-limit, held-lot}
+use Rattle.rules.specs.Host.{host-mean, host-deviation, host-percentages, given-lot, held-limit, held-lot}
 use Rattle.laws.specs.Ratio.{Is}
 use Rattle.laws.specs.Root.{HalfUpRoot}
 use Rattle.laws.specs.Moved.{Counted}
@@ -40,7 +41,7 @@ use Rattle.laws.proofs.Lots.{lot-of-counted, lot-in-counted}
 use Rattle.laws.proofs.PublishedIndex.{mean-is}
 use Rattle.laws.proofs.PublishedDeviation.{deviation-is-nearest}
 use Rattle.laws.proofs.AsPublished.{evaluated-as-published}
-use Rattle.laws.proofs.Given.{percentages-given, deviation-given}
+use Rattle.laws.proofs.Given.{mean-given, deviation-given, percentages-given}
 
 -- ---- percentages
 
@@ -100,3 +101,7 @@ unfolding mean-says
 mean-answer-is-published xs m e =
     let r = ruled-answers (readings-meet xs) (record { total = thousandths (sum xs); count = length xs }) m (sym e) in
     rw (sym (r .1)) (mean-is xs (omega (arith, readings-accepted xs (r .0) .least)))
+
+pub given-mean-is-published :
+    (xs : List ℤ) (r : HostMean) → r ≡ host-mean (mean-says xs) → r .refusal .number ≡ 0 → Is (published-mean xs) (r .total) (r .count)
+given-mean-is-published xs r e z = mean-answer-is-published xs _ (sym (mean-given _ r e z))

@@ -2,7 +2,6 @@
 use mathlib.Core.Path.{_≡_, sym}
 use mathlib.Core.List.{List}
 use Prim.Native.Nat.{ℕ, _-_, _*_, _≤_}
-use native.Mathlib.Nat.{mul-pos}
 use native.Mathlib.Omega.{arith}
 use lib.Dec.{T}
 use lib.IntN.{ℤ, pos, natAbs}
@@ -20,7 +19,7 @@ use Rattle.laws.proofs.Root.{midpoint-up-to, midpoint-above}
 use Rattle.laws.proofs.PublishedIndex.{variance-is}
 
 pub deviation-is-nearest : (xs : List ℤ) → 2 ≤ length xs → HalfUpRoot (published-deviation xs) (deviation-of (length xs) xs)
-deviation-is-nearest xs some = rw (sym whole) (record { low = midpoint-up-to under is 2 s (λ h. omega (arith, below n w s h here)); high = midpoint-above under is 2 s (omega (arith, above n w s here)) })
+deviation-is-nearest xs some = rw (sym whole) (record { low = midpoint-up-to is 2 s (λ h. omega (arith, below n w s h here)); high = midpoint-above is 2 s (omega (arith, above n w s here)) })
   where
     n : ℕ
     n = length xs
@@ -36,9 +35,6 @@ deviation-is-nearest xs some = rw (sym whole) (record { low = midpoint-up-to und
 
     here : T (is-deviation n (pos w) s)
     here = meets n w some
-
-    under : 1 ≤ n * (n - 1)
-    under = mul-pos {m = n} (omega arith) (omega arith)
 
     is : Is (published-deviation xs .square) (pos w) (n * (n - 1))
     is = rw whole (variance-is xs some)

@@ -1,4 +1,5 @@
--- The published mean, deviation and index in document 01's numbers: x̄ is T/n, S² is V/(n·(n − 1)), Q² is (n − 1)·D²/(n·V), and Q has the sign of D.
+-- The published mean, deviation and index in document 01's numbers: x̄ is T/n, S² is V/(n·(n − 1)), Q² is (n − 1)·D²/(n·V), and Q is below zero where
+-- D is.
 use mathlib.Core.Path.{sym, ap, _∙_}
 use mathlib.Core.Logic.{_↔_}
 use mathlib.Core.List.{List, map-id}
@@ -36,14 +37,14 @@ module _ (xs : List ℤ) where
   pub mean-is : 1 ≤ n → Is (published-mean xs) t n
   unfolding published-mean
   mean-is some =
-      is-also (is-shared some (is-total whole (λ (x : ℤ). x) 1 is-whole xs)) (omega arith)
+      is-also (is-shared some (is-total whole (λ (x : ℤ). x) 1 (omega arith) is-whole xs)) some
       (ap (λ (ys : List ℤ). sum ys *ℤ pos n) (map-id xs) ∙ diff-eq (var t ⊗ nat n) (var t ⊗ nat (1 * n)) (omega arith))
 
-  whole-is : (x : ℤ) → Is (whole x) (x *ℤ pos n) n
-  whole-is x = is-also (is-whole x) (omega arith) (diff-eq (var x ⊗ nat n) (var x ⊗ nat n ⊗ nat 1) (omega arith))
+  whole-is : 1 ≤ n → (x : ℤ) → Is (whole x) (x *ℤ pos n) n
+  whole-is some x = is-also (is-whole x) some (diff-eq (var x ⊗ nat n) (var x ⊗ nat n ⊗ nat 1) (omega arith))
 
   off-is : 1 ≤ n → (x : ℤ) → Is (minus (whole x) (published-mean xs)) (x *ℤ pos n -ℤ t) n
-  off-is some x = is-minus (whole-is x) (mean-is some)
+  off-is some x = is-minus (whole-is some x) (mean-is some)
 
   -- (2)
   pub variance-is : 2 ≤ n → Is (published-deviation xs .square) v (n * (n - 1))
@@ -52,7 +53,7 @@ module _ (xs : List ℤ) where
       let off = off-is (omega arith) in
       let least : 1 ≤ n = omega arith in
       let less : 1 ≤ n - 1 = omega arith in
-      is-also (is-shared less (is-total (squared-off (published-mean xs)) _ (n * n) (λ x. is-times (off x) (off x)) xs)) (mul-pos (mul-pos least least) less)
+      is-also (is-shared less (is-total (squared-off (published-mean xs)) _ (n * n) (mul-pos least least) (λ x. is-times (off x) (off x)) xs)) (mul-pos least less)
       (ap (λ (x : ℤ). x *ℤ pos (n * (n - 1))) (off-squares-spread xs) ∙ diff-eq (nat n ⊗ var v ⊗ nat (n * (n - 1))) (var v ⊗ nat (n * n * (n - 1))) (omega arith))
 
   pub upper-beyond-is : 1 ≤ n → (u : ℤ) → Is (upper-beyond u xs) (upper-distance (totals n xs) u) n
@@ -61,7 +62,7 @@ module _ (xs : List ℤ) where
 
   pub lower-beyond-is : 1 ≤ n → (l : ℤ) → Is (lower-beyond l xs) (lower-distance (totals n xs) l) n
   unfolding lower-beyond lower-distance
-  lower-beyond-is some l = rw (*ℤ-comm (pos n) l) (is-minus (mean-is some) (whole-is l))
+  lower-beyond-is some l = rw (*ℤ-comm (pos n) l) (is-minus (mean-is some) (whole-is some l))
 
   -- (3) and (4): of the index of a limit that lies D/n beyond the mean, for V above 0
   module _ (above : pos 0 <ℤ v) (beyond : Ratio) (d : ℤ) (is : Is beyond d n) where
@@ -70,9 +71,6 @@ module _ (xs : List ℤ) where
 
     some : 2 ≤ n
     some = spread-needs-two xs above
-
-    least : 1 ≤ n
-    least = omega (arith, some)
 
     some-spread : 1 ≤ natAbs v
     some-spread = omega (arith, natAbs-parts v, lt-read above)
@@ -83,7 +81,7 @@ module _ (xs : List ℤ) where
         let w : ℕ = natAbs v in
         let x : ℤ = d *ℤ pos (natAbs d) in
         let s : Is (published-deviation xs .square) (pos w) (n * (n - 1)) = rw (natAbs-pos (<ℤ→≤ℤ above)) (variance-is some) in
-        is-also (is-quotient some-spread (mul-pos least (omega (arith, some))) (is-signed-square is) s) (mul-pos (mul-pos least least) some-spread)
+        is-also (is-quotient some-spread (is-signed-square is) s) (mul-pos (is .over) some-spread)
         (*ℤ-assoc x (pos (n * (n - 1))) (pos (n * w)) ∙ ap (λ (k : ℕ). x *ℤ pos k) (omega arith) ∙ sym (*ℤ-assoc x (pos (n - 1)) (pos (n * n * w))))
 
     pub index-squared-is : Is (magnitude q .square) (d *ℤ d *ℤ pos (n - 1)) (n * natAbs v)
@@ -94,7 +92,7 @@ module _ (xs : List ℤ) where
     unfolding signed
     index-sign-is =
         let x : ℤ = d *ℤ pos (natAbs d) in
-        let one = is-negative (mul-pos least some-spread) signed-is in
+        let one = is-negative signed-is in
         let two = one-sign (x *ℤ pos (n - 1)) x 1 (n - 1) (omega arith) (omega (arith, some)) (diff-eq (var x ⊗ nat (n - 1) ⊗ nat 1) (var x ⊗ nat (n - 1)) (omega arith)) in
         let three = signed-< d (pos 0) in
         (λ h. three .1 (two .0 (one .0 h)), λ h. one .1 (two .1 (three .0 h)))

@@ -1,16 +1,15 @@
--- The row of document 01's squared rule is the row of the table that is nearest the published index, for any readings not all equal.
+-- The row of document 01's squared rule is the row of the table that is nearest the magnitude of the published index, for any readings not all equal.
 use mathlib.Core.Path.{_≡_, refl}
 use mathlib.Core.Logic.{⊎-elim, _↔_}
 use mathlib.Core.List.{List}
 use Prim.Native.Nat.{ℕ, _-_, _*_, _≤_}
-use native.Mathlib.Nat.{mul-pos}
 use native.Mathlib.Omega.{arith}
 use lib.IntN.{ℤ, pos, natAbs, _*ℤ_}
 use lib.ListN.{length}
 use lib.Signed.{_<ℤ_}
 use Rattle.integers.proofs.Difference.{le-read, lt-read}
 use Rattle.integers.proofs.Order.{<ℤ→≤ℤ}
-use Rattle.integers.proofs.Magnitude.{natAbs-parts, natAbs-pos}
+use Rattle.integers.proofs.Magnitude.{natAbs-pos}
 use Rattle.integers.proofs.Square.{square, square-nat}
 use Rattle.rules.specs.declared.Totals.{Totals}
 use Rattle.rules.specs.Percent.{totals, spread, upper-distance, lower-distance, nearest}
@@ -38,10 +37,7 @@ module _ (xs : List ℤ) (above : pos 0 <ℤ spread (totals (length xs) xs)) (be
   abbrev q : Root
   q = magnitude (published-index beyond xs)
 
-  -- n·V and D² as natural numbers
-  under : 1 ≤ n * natAbs v
-  under = mul-pos {m = n} (omega (arith, spread-needs-two xs above)) (omega (arith, natAbs-parts v, lt-read above))
-
+  -- with D² and V as natural numbers
   squared : Is (q .square) (pos (natAbs d * natAbs d) *ℤ pos (n - 1)) (n * natAbs v)
   unfolding square
   squared = rw (square-nat d) at (index-squared-is xs above beyond d is)
@@ -55,8 +51,8 @@ module _ (xs : List ℤ) (above : pos 0 <ℤ spread (totals (length xs) xs)) (be
       let here = encloses k e in
       record {
         in-table = here .row;
-        from-below = midpoint-up-to under squared 40 k (λ some. ⊎-elim (λ z. absurd (omega arith)) (λ low. omega (arith, le-read (rw (square-nat d) at low))) (here .from-below));
-        before-above = λ low. midpoint-above under squared 40 k (omega (arith, lt-read (rw (square-nat d) at (here .before-above low))));
+        from-below = midpoint-up-to squared 40 k (λ some. ⊎-elim (λ z. absurd (omega arith)) (λ low. omega (arith, le-read (rw (square-nat d) at low))) (here .from-below));
+        before-above = λ low. midpoint-above squared 40 k (omega (arith, lt-read (rw (square-nat d) at (here .before-above low))));
       }
 
   -- It is the nearest, and no other is.
@@ -80,6 +76,12 @@ module _ (xs : List ℤ) (unequal : AllEqual xs → ⊥) where
 
   some : 1 ≤ length xs
   some = omega (arith, spread-needs-two xs spread-above)
+
+  pub upper-row-is-between-midpoints : (u : ℤ) → BetweenMidpoints (magnitude (published-index (upper-beyond u xs) xs)) (nearest (a .n) (spread a) (upper-distance a u))
+  upper-row-is-between-midpoints u = row-is-between-midpoints xs spread-above (upper-beyond u xs) (upper-distance a u) (upper-beyond-is xs some u) _ refl
+
+  pub lower-row-is-between-midpoints : (l : ℤ) → BetweenMidpoints (magnitude (published-index (lower-beyond l xs) xs)) (nearest (a .n) (spread a) (lower-distance a l))
+  lower-row-is-between-midpoints l = row-is-between-midpoints xs spread-above (lower-beyond l xs) (lower-distance a l) (lower-beyond-is xs some l) _ refl
 
   pub upper-row-is-nearest : (u : ℤ) (k : ℕ) → (nearest (a .n) (spread a) (upper-distance a u) ≡ k) ↔ NearestRow (magnitude (published-index (upper-beyond u xs) xs)) k
   upper-row-is-nearest u = row-is-nearest xs spread-above (upper-beyond u xs) (upper-distance a u) (upper-beyond-is xs some u)

@@ -38,7 +38,7 @@ pub same-at-most : (x y : Ratio) → Same x y → AtMost x y
 same-at-most x y e = record { order = subst (λ (z : ℤ). (x .top *ℤ pos (y .under)) ≤ℤ z) e (≤ℤ-refl _) }
 
 -- A fraction stands to x as it does to what x comes to.
-module _ {x : Ratio} {a : ℤ} {u : ℕ} (some : 1 ≤ u) (is : Is x a u) where
+module _ {x : Ratio} {a : ℤ} {u : ℕ} (is : Is x a u) where
   to : AtMost x (ratio a u)
   to = same-at-most x (ratio a u) (is .same)
 
@@ -46,7 +46,7 @@ module _ {x : Ratio} {a : ℤ} {u : ℕ} (some : 1 ≤ u) (is : Is x a u) where
   from = same-at-most (ratio a u) x (sym (is .same))
 
   pub is-above : {f : Ratio} → AtMost f (ratio a u) → AtMost f x
-  is-above h = at-most-trans some h from
+  is-above h = at-most-trans (is .over) h from
 
   pub is-below : {f : Ratio} → Less (ratio a u) f → Less x f
   is-below h = at-most-less (is .proper) to h

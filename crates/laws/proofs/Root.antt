@@ -1,4 +1,4 @@
--- A fraction and a root are in order as their signed squares are: what order is said of two fractions so, and how orders of both kinds join.
+-- The order of fractions and roots: signed squares keep that of fractions, and so the orders of both kinds join.
 use mathlib.Core.Path.{_≡_, sym, subst}
 use mathlib.Core.Logic.{_↔_}
 use Prim.Native.Nat.{ℕ, zero, suc, _+_, _-_, _*_, _≤_, _<_}
@@ -90,17 +90,17 @@ below-up-to h = record { squares = record { order = <ℤ→≤ℤ (h .squares .o
 -- ---- midpoints
 
 -- A root of a/u, and the numbers (2k − 1)/c and (2k + 1)/c, which are halfway from k to its neighbours in (c/2)ths: in squares, times u and c².
-module _ {x : Root} {a u : ℕ} (some : 1 ≤ u) (is : Is (x .square) (pos a) u) (c : ℕ) where
+module _ {x : Root} {a u : ℕ} (is : Is (x .square) (pos a) u) (c : ℕ) where
   pub midpoint-up-to : (k : ℕ) → (0 < k → (2 * k - 1) * (2 * k - 1) * u ≤ a * (c * c)) → UpTo (ratio (pos (2 * k) -ℤ pos 1) c) x
-  midpoint-up-to zero h = record { squares = is-above some is (record { order = diff-le (⊝ nat 1 ⊗ nat u) (nat (a * (c * c))) (omega arith) }) }
+  midpoint-up-to zero h = record { squares = is-above is (record { order = diff-le (⊝ nat 1 ⊗ nat u) (nat (a * (c * c))) (omega arith) }) }
   midpoint-up-to (suc k) h =
       let o : ℕ = 2 * suc k - 1 in
       let low : o * o * u ≤ a * (c * c) = h (omega arith) in
       subst (λ (z : ℤ). UpTo (ratio z c) x) (diff-eq (nat o) (nat (2 * suc k) ⊖ nat 1) (omega arith))
-      (record { squares = is-above some is (record { order = pos-mono low }) })
+      (record { squares = is-above is (record { order = pos-mono low }) })
 
   pub midpoint-above : (k : ℕ) → a * (c * c) < (2 * k + 1) * (2 * k + 1) * u → RootBelow x (ratio (pos (2 * k + 1)) c)
-  midpoint-above k h = record { squares = is-below some is (record { order = diff-lt (nat (a * (c * c))) (nat ((2 * k + 1) * (2 * k + 1) * u)) (omega arith) }) }
+  midpoint-above k h = record { squares = is-below is (record { order = diff-lt (nat (a * (c * c))) (nat ((2 * k + 1) * (2 * k + 1) * u)) (omega arith) }) }
 
 -- ---- nearest whole numbers
 

@@ -62,7 +62,7 @@ unfolding nearest
 row-is n v d h k low here next = largest-is (admits n v d) (admits-falls n v d h) last-row k low here next
 
 -- Document 01 of row k, in its own numbers: the midpoint below it is not above the index, and the midpoint above it is.
--- That it is the row nearest the published index is `row-is-nearest`, PublishedRow.antt.
+-- That it is the row nearest the magnitude of the published index is `row-is-nearest`, PublishedRow.antt.
 pub record Encloses (n : ℕ) (v d : ℤ) (k : ℕ) : Type 0 where
   pub row : k ≤ 53
   pub from-below : (k ≡ 0) ⊎ ((pos ((2 * k - 1) * (2 * k - 1) * n) *ℤ v) ≤ℤ (pos (1600 * (n - 1)) *ℤ (d *ℤ d)))

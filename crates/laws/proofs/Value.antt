@@ -18,15 +18,16 @@ use Rattle.laws.specs.Root.{signed-square, Root, magnitude}
 use Rattle.laws.specs.PublishedIndex.{total}
 
 pub is-whole : (z : ℤ) → Is (whole z) z 1
-is-whole z = record { proper = omega arith; same = refl }
+is-whole z = record { proper = omega arith; over = omega arith; same = refl }
 
 -- Another fraction of the same value will do.
-pub is-also : {x : Ratio} {a b : ℤ} {u w : ℕ} → Is x a u → 1 ≤ u → a *ℤ pos w ≡ b *ℤ pos u → Is x b w
+pub is-also : {x : Ratio} {a b : ℤ} {u w : ℕ} → Is x a u → 1 ≤ w → a *ℤ pos w ≡ b *ℤ pos u → Is x b w
 is-also {x} {a} {b} {u} {w} h some e =
     record {
       proper = h .proper;
+      over = some;
       same =
-          *ℤ-cancel u some
+          *ℤ-cancel u (h .over)
           (diff-eq (var (x .top) ⊗ nat w ⊗ nat u) (var b ⊗ nat (x .under) ⊗ nat u)
           (omega (
             arith,
@@ -40,6 +41,7 @@ pub is-plus : {x y : Ratio} {a b : ℤ} {u : ℕ} → Is x a u → Is y b u → 
 is-plus {x} {y} {a} {b} {u} h k =
     record {
       proper = mul-le-mul (h .proper) (k .proper);
+      over = h .over;
       same =
           diff-eq ((var (x .top) ⊗ nat (y .under) ⊕ var (y .top) ⊗ nat (x .under)) ⊗ nat u) ((var a ⊕ var b) ⊗ nat (x .under * y .under))
           (omega (
@@ -53,6 +55,7 @@ pub is-minus : {x y : Ratio} {a b : ℤ} {u : ℕ} → Is x a u → Is y b u →
 is-minus {x} {y} {a} {b} {u} h k =
     record {
       proper = mul-le-mul (h .proper) (k .proper);
+      over = h .over;
       same =
           diff-eq ((var (x .top) ⊗ nat (y .under) ⊖ var (y .top) ⊗ nat (x .under)) ⊗ nat u) ((var a ⊖ var b) ⊗ nat (x .under * y .under))
           (omega (
@@ -66,6 +69,7 @@ pub is-times : {x y : Ratio} {a b : ℤ} {u w : ℕ} → Is x a u → Is y b w �
 is-times {x} {y} {a} {b} {u} {w} h k =
     record {
       proper = mul-le-mul (h .proper) (k .proper);
+      over = mul-le-mul (h .over) (k .over);
       same = *ℤ-swap (x .top) (y .top) (pos u) (pos w) ∙ ap₂ _*ℤ_ (h .same) (k .same) ∙ *ℤ-swap a (pos (x .under)) b (pos (y .under));
     }
 
@@ -73,6 +77,7 @@ pub is-shared : {x : Ratio} {a : ℤ} {u n : ℕ} → 1 ≤ n → Is x a u → I
 is-shared {x} {a} {u} {n} some h =
     record {
       proper = mul-le-mul (h .proper) some;
+      over = mul-le-mul (h .over) some;
       same =
           diff-eq (var (x .top) ⊗ nat (u * n)) (var a ⊗ nat (x .under * n))
           (omega (arith, ap (λ m. m * n) (eq-diff (var (x .top) ⊗ nat u) (var a ⊗ nat (x .under)) (h .same))));
@@ -83,12 +88,13 @@ above zero w h = absurd (omega arith)
 above (suc c) w h = omega arith
 
 -- Over a fraction that is above 0: its top is above 0 too.
-pub is-quotient : {x y : Ratio} {a : ℤ} {b u w : ℕ} → 1 ≤ b → 1 ≤ w → Is x a u → Is y (pos b) w → Is (quotient x y) (a *ℤ pos w) (u * b)
-is-quotient {x} {y} {a} {b} {u} {w} some under h k =
+pub is-quotient : {x y : Ratio} {a : ℤ} {b u w : ℕ} → 1 ≤ b → Is x a u → Is y (pos b) w → Is (quotient x y) (a *ℤ pos w) (u * b)
+is-quotient {x} {y} {a} {b} {u} {w} some h k =
     let c : ℕ = natAbs (y .top) in
     let e : c * w ≡ b * y .under = sym (natAbs-mul (y .top) (pos w)) ∙ ap natAbs (k .same) in
     record {
       proper = mul-le-mul (h .proper) (above c w (omega (arith, e, mul-le-mul some (k .proper))));
+      over = mul-le-mul (h .over) some;
       same =
           *ℤ-swap (x .top) (pos (y .under)) (pos u) (pos b)
           ∙ ap₂ (λ (p : ℤ) (m : ℕ). p *ℤ pos m) (h .same) (mul-comm (y .under) b ∙ sym e ∙ mul-comm c w)
@@ -100,6 +106,7 @@ unfolding signed
 is-signed-square {x} {a} {u} h =
     record {
       proper = mul-le-mul (h .proper) (h .proper);
+      over = mul-le-mul (h .over) (h .over);
       same = sym (signed-scaled (x .top) u) ∙ ap signed (h .same) ∙ signed-scaled a (x .under);
     }
 
@@ -107,6 +114,7 @@ pub is-magnitude : {x : Root} {a : ℤ} {u : ℕ} → Is (x .square) a u → Is 
 is-magnitude {x} {a} {u} h =
     record {
       proper = h .proper;
+      over = h .over;
       same = ap pos (sym (natAbs-mul (x .square .top) (pos u)) ∙ ap natAbs (h .same) ∙ natAbs-mul a (pos (x .square .under)));
     }
 
@@ -119,12 +127,12 @@ negative a b u w some e h =
 pub one-sign : (a b : ℤ) (u w : ℕ) → 1 ≤ u → 1 ≤ w → a *ℤ pos u ≡ b *ℤ pos w → (a <ℤ pos 0) ↔ (b <ℤ pos 0)
 one-sign a b u w some more e = (negative a b u w some e, negative b a w u more (sym e))
 
-pub is-negative : {x : Ratio} {a : ℤ} {u : ℕ} → 1 ≤ u → Is x a u → (x .top <ℤ pos 0) ↔ (a <ℤ pos 0)
-is-negative {x} {a} {u} some h = one-sign (x .top) a u (x .under) some (h .proper) (h .same)
+pub is-negative : {x : Ratio} {a : ℤ} {u : ℕ} → Is x a u → (x .top <ℤ pos 0) ↔ (a <ℤ pos 0)
+is-negative {x} {a} {u} h = one-sign (x .top) a u (x .under) (h .over) (h .proper) (h .same)
 
 -- ---- sums over readings
 
-pub is-total : (f : ℤ → Ratio) (g : ℤ → ℤ) (u : ℕ) → ((x : ℤ) → Is (f x) (g x) u) → (xs : List ℤ) → Is (total (map f xs)) (sum (map g xs)) u
+pub is-total : (f : ℤ → Ratio) (g : ℤ → ℤ) (u : ℕ) → 1 ≤ u → ((x : ℤ) → Is (f x) (g x) u) → (xs : List ℤ) → Is (total (map f xs)) (sum (map g xs)) u
 unfolding total sum
-is-total f g u each [] = record { proper = omega arith; same = diff-eq (nat 0 ⊗ nat u) (nat 0) (omega arith) }
-is-total f g u each (x ∷ xs) = is-plus (each x) (is-total f g u each xs)
+is-total f g u some each [] = record { proper = omega arith; over = some; same = diff-eq (nat 0 ⊗ nat u) (nat 0) (omega arith) }
+is-total f g u some each (x ∷ xs) = is-plus (each x) (is-total f g u some each xs)

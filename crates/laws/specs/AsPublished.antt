@@ -1,21 +1,24 @@
--- Demand 2 of an evaluation, in the words of documents 01 and 004: of readings in thousandths, limits, and the table's column for their count.
+-- Demand 2 in the words of documents 01 and 004: of readings and limits in thousandths, and sides, PWL and a column of entries in hundredths of a
+-- percent.
 use mathlib.Core.Path.{_≡_}
 use mathlib.Core.List.{List}
-use Prim.Native.Nat.{ℕ}
+use Prim.Native.Nat.{ℕ, _*_}
 use lib.IntN.{ℤ, pos, _+ℤ_, _-ℤ_}
 use lib.ListN.{length}
 use lib.Signed.{_≤ℤ_, _<ℤ_}
 use Rattle.rules.specs.declared.Limit.{Limit}
 use Rattle.rules.specs.declared.Limit.the-variants.{Absent, At}
 use Rattle.rules.specs.declared.Percentages.{Percentages}
+use Rattle.rules.specs.declared.Row.{Row}
 use Rattle.rules.specs.Table.{a-column, table-106-1, entry}
-use Rattle.laws.specs.Ratio.{Ratio}
-use Rattle.laws.specs.Root.{Root, BelowZero, magnitude}
+use Rattle.rules.specs.Notebook.{over}
+use Rattle.laws.specs.Ratio.{Ratio, Is}
+use Rattle.laws.specs.Root.{Root, BelowZero, magnitude, HalfUpRoot}
 use Rattle.laws.specs.AllEqual.{AllEqual}
-use Rattle.laws.specs.PublishedIndex.{upper-beyond, lower-beyond, published-index}
+use Rattle.laws.specs.PublishedIndex.{published-mean, published-deviation, upper-beyond, lower-beyond, published-index}
 use Rattle.laws.specs.NearestRow.{NearestRow}
 
--- The column's entry at the row nearest the index q, and for q below zero 100 percent less it.
+-- The column's entry at the row nearest the magnitude of the index q, and for q below zero 100 percent less it.
 pub record LookedUp (column : List ℕ) (q : Root) (side : ℤ) : Type 0 where
   pub row : ℕ
   pub nearest : NearestRow (magnitude q) row
@@ -49,3 +52,15 @@ pub record ByTable106-1 (upper lower : Limit) (xs : List ℤ) (p : Percentages) 
   pub column : List ℕ
   pub found : table-106-1 (length xs) ≡ a-column column
   pub published : AsPublished column upper lower xs p
+
+-- The notebook's row: each double is one division of a number that is as published.
+pub record RowAsPublished (upper lower : Limit) (xs : List ℤ) (row : Row) : Type 0 where
+  pub total : ℤ
+  pub mean : Is (published-mean xs) total (length xs)
+  pub mean-double : row .mean ≡ over total (1000 * length xs)
+  pub thousandths : ℤ
+  pub deviation : HalfUpRoot (published-deviation xs) thousandths
+  pub deviation-double : row .deviation ≡ over thousandths 1000
+  pub percentages : Percentages
+  pub by-the-table : ByTable106-1 upper lower xs percentages
+  pub pwl-double : row .pwl ≡ over (percentages .pwl .0) 100

@@ -2,8 +2,10 @@
 use mathlib.Core.Path.{_≡_}
 use mathlib.Core.Logic.{_↔_}
 use Rattle.rules.specs.declared.Percentages.{Percentages}
+use Rattle.rules.specs.declared.Row.{Row}
 use Rattle.rules.specs.declared.host.HostRefusal.{HostRefusal}
 use Rattle.rules.specs.declared.host.HostPercentages.{HostPercentages}
+use Rattle.rules.specs.declared.host.HostRow.{HostRow}
 use Rattle.rules.specs.Units.{hundredths}
 use Rattle.rules.specs.Said.{Said, answers}
 
@@ -18,3 +20,7 @@ ZeroWhenAnswered part said = (part .number ≡ 0) ↔ HasAnswer said
 -- C's percentages in their kind
 abbrev pub given-percentages : HostPercentages → Percentages
 given-percentages r = record { upper = hundredths (r .upper); lower = hundredths (r .lower); pwl = hundredths (r .pwl) }
+
+-- C's row as the doubles that it has
+abbrev pub given-row-of : HostRow → Row
+given-row-of r = record { mean = r .mean; deviation = r .deviation; pwl = r .pwl }

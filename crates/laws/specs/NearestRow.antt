@@ -1,4 +1,4 @@
--- The row of the table that is nearest an index, by document 004's section 106.03 K and by distances.
+-- The row of the table that is nearest an index of 0 or more, by document 004's section 106.03 K and by distances.
 use Prim.Native.Nat.{ℕ, _+_, _*_, _≤_, _<_}
 use lib.IntN.{pos, _-ℤ_}
 use Rattle.rules.specs.Table.{last-row}
@@ -11,8 +11,8 @@ row-index k = ratio (pos k) 20
 
 -- ---- by midpoints
 
--- The midpoints below and above row k, (2k − 1)/40 and (2k + 1)/40, enclose an index q of 0 or more: at the lower one it has come to row k, at
--- the upper one to the next. The last row has none above it.
+-- The midpoints below and above row k, (2k − 1)/40 and (2k + 1)/40, enclose the index q: at the lower one it has come to row k, at the upper one to
+-- the next. The last row has none above it.
 pub record BetweenMidpoints (q : Root) (k : ℕ) : Type 0 where
   pub in-table : k ≤ last-row
   pub from-below : UpTo (ratio (pos (2 * k) -ℤ pos 1) 40) q

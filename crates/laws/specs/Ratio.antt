@@ -39,9 +39,10 @@ quotient x y = ratio (x .top *ℤ pos (y .under)) (x .under * natAbs (y .top))
 abbrev pub Same : Ratio → Ratio → Type 0
 Same x y = x .top *ℤ pos (y .under) ≡ y .top *ℤ pos (x .under)
 
--- x comes to a over u, and there is something under it.
+-- x comes to a over u, and there is something under both.
 pub record Is (x : Ratio) (a : ℤ) (u : ℕ) : Type 0 where
   pub proper : 1 ≤ x .under
+  pub over : 1 ≤ u
   pub same : Same x (ratio a u)
 
 pub record AtMost (x y : Ratio) : Type 0 where

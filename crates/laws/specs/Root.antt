@@ -15,7 +15,10 @@ pub record Root : Type 0 where
 abbrev pub root : Ratio → Root
 root x = record { square = x }
 
--- A fraction stands to a root as its signed square does to that of the root: such squares keep the order (a law). So f ≤ x,
+-- A fraction stands to a root as its signed square does to that of the root: that squares so taken keep the order is `squares-keep-≤` and
+-- `squares-keep-<`, laws/proofs/Root.antt.
+
+-- f ≤ x
 pub record UpTo (f : Ratio) (x : Root) : Type 0 where
   pub squares : AtMost (signed-square f) (x .square)
 
@@ -23,7 +26,7 @@ pub record UpTo (f : Ratio) (x : Root) : Type 0 where
 pub record RootUpTo (x : Root) (f : Ratio) : Type 0 where
   pub squares : AtMost (x .square) (signed-square f)
 
--- and x < f.
+-- x < f
 pub record RootBelow (x : Root) (f : Ratio) : Type 0 where
   pub squares : Less (x .square) (signed-square f)
 

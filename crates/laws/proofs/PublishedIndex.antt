@@ -1,6 +1,6 @@
 -- The published mean, deviation and index in document 01's numbers: x̄ is T/n, S² is V/(n·(n − 1)), Q² is (n − 1)·D²/(n·V), and Q is below zero where
 -- D is.
-use mathlib.Core.Path.{sym, ap, _∙_}
+use mathlib.Core.Path.{sym, ap, _∙_, subst}
 use mathlib.Core.Logic.{_↔_}
 use mathlib.Core.List.{List, map-id}
 use Prim.Native.Nat.{ℕ, _-_, _*_, _≤_}
@@ -58,11 +58,11 @@ module _ (xs : List ℤ) where
 
   pub upper-beyond-is : 1 ≤ n → (u : ℤ) → Is (upper-beyond u xs) (upper-distance (totals n xs) u) n
   unfolding upper-beyond upper-distance
-  upper-beyond-is some u = rw (*ℤ-comm (pos n) u) (off-is some u)
+  upper-beyond-is some u = subst (λ (z : ℤ). Is (upper-beyond u xs) (z -ℤ t) n) (*ℤ-comm u (pos n)) (off-is some u)
 
   pub lower-beyond-is : 1 ≤ n → (l : ℤ) → Is (lower-beyond l xs) (lower-distance (totals n xs) l) n
   unfolding lower-beyond lower-distance
-  lower-beyond-is some l = rw (*ℤ-comm (pos n) l) (is-minus (mean-is some) (whole-is some l))
+  lower-beyond-is some l = subst (λ (z : ℤ). Is (lower-beyond l xs) (t -ℤ z) n) (*ℤ-comm l (pos n)) (is-minus (mean-is some) (whole-is some l))
 
   -- (3) and (4): of the index of a limit that lies D/n beyond the mean, for V above 0
   module _ (above : pos 0 <ℤ v) (beyond : Ratio) (d : ℤ) (is : Is beyond d n) where

@@ -26,7 +26,7 @@ module _ (d : Ratio) {j k : ℕ} where
   less-keeps low =
       record {
         order =
-            diff-le ((nat (j * d .under) ⊖ var (d .top) ⊗ nat 20) ⊗ nat (20 * d .under)) ((nat (k * d .under) ⊖ var (d .top) ⊗ nat 20) ⊗ nat (20 * d .under))
+            diff-le ((nat (j * d .under) ⊖ var (d .top) ⊗ nat _) ⊗ nat _) ((nat (k * d .under) ⊖ var (d .top) ⊗ nat _) ⊗ nat _)
             (omega (arith, mul-le-mul-right (20 * d .under) (mul-le-mul-right (d .under) low)));
       }
 
@@ -34,7 +34,7 @@ module _ (d : Ratio) {j k : ℕ} where
   more-keeps low =
       record {
         order =
-            diff-le ((nat (j * d .under) ⊕ var (d .top) ⊗ nat 20) ⊗ nat (20 * d .under)) ((nat (k * d .under) ⊕ var (d .top) ⊗ nat 20) ⊗ nat (20 * d .under))
+            diff-le ((nat (j * d .under) ⊕ var (d .top) ⊗ nat _) ⊗ nat _) ((nat (k * d .under) ⊕ var (d .top) ⊗ nat _) ⊗ nat _)
             (omega (arith, mul-le-mul-right (20 * d .under) (mul-le-mul-right (d .under) low)));
       }
 
@@ -43,11 +43,11 @@ module _ (d : Ratio) {j k : ℕ} where
   from-lower low h =
       record {
         order =
-            diff-le ((nat (k * d .under) ⊖ var (d .top) ⊗ nat 20) ⊗ nat 40) ((nat (2 * k) ⊖ nat 1) ⊗ nat (20 * d .under))
+            diff-le ((nat (k * d .under) ⊖ var (d .top) ⊗ nat _) ⊗ nat 40) ((nat (2 * k) ⊖ nat 1) ⊗ nat _)
             (omega (
               arith,
               mul-le-mul-right (d .under) low,
-              le-diff ((nat (2 * k) ⊖ nat 1) ⊗ nat (20 * d .under)) ((nat (j * d .under) ⊕ var (d .top) ⊗ nat 20) ⊗ nat 40) (h .order),
+              le-diff ((nat (2 * k) ⊖ nat 1) ⊗ nat _) ((nat (j * d .under) ⊕ var (d .top) ⊗ nat _) ⊗ nat 40) (h .order),
             ));
       }
 
@@ -56,11 +56,11 @@ module _ (d : Ratio) {j k : ℕ} where
   from-higher low h =
       record {
         order =
-            diff-le (nat (2 * j + 1) ⊗ nat (20 * d .under)) ((nat (j * d .under) ⊕ var (d .top) ⊗ nat 20) ⊗ nat 40)
+            diff-le (nat (2 * j + 1) ⊗ nat _) ((nat (j * d .under) ⊕ var (d .top) ⊗ nat _) ⊗ nat 40)
             (omega (
               arith,
               mul-le-mul-right (d .under) low,
-              lt-diff ((nat (k * d .under) ⊖ var (d .top) ⊗ nat 20) ⊗ nat 40) (nat (2 * j + 1) ⊗ nat (20 * d .under)) (h .order),
+              lt-diff ((nat (k * d .under) ⊖ var (d .top) ⊗ nat _) ⊗ nat 40) (nat (2 * j + 1) ⊗ nat _) (h .order),
             ));
       }
 

@@ -35,7 +35,7 @@ not-below z h = ⊎-elim (λ k. k) (λ k. absurd (h k)) (≤ℤ-total (pos 0) z)
 
 -- ---- a side whose limit lies D/n beyond the mean
 
-module _ (column : List ℕ) (xs : List ℤ) (some : 2 ≤ length xs) (beyond : Ratio) (d : ℤ) (is : Is beyond d (length xs)) where
+module _ (column : List ℕ) (xs : List ℤ) (beyond : Ratio) (d : ℤ) (is : Is beyond d (length xs)) where
   abbrev n : ℕ
   n = length xs
 
@@ -75,18 +75,18 @@ module _ (column : List ℕ) (xs : List ℤ) (some : 2 ≤ length xs) (beyond : 
 
 -- ---- both sides
 
-module _ (column : List ℕ) (xs : List ℤ) (some : 2 ≤ length xs) where
+module _ (column : List ℕ) (xs : List ℤ) (some : 1 ≤ length xs) where
   upper-is-published : (upper : Limit) → UpperAsPublished column upper xs (upper-side nearest column (totals (length xs) xs) upper)
   unfolding upper-side
   upper-is-published Absent = refl
   upper-is-published (At u) =
-      side-is-published column xs some _ (upper-distance (totals (length xs) xs) (u .0)) (upper-beyond-is xs (omega arith) (u .0))
+      side-is-published column xs _ (upper-distance (totals (length xs) xs) (u .0)) (upper-beyond-is xs some (u .0))
 
   lower-is-published : (lower : Limit) → LowerAsPublished column lower xs (lower-side nearest column (totals (length xs) xs) lower)
   unfolding lower-side
   lower-is-published Absent = refl
   lower-is-published (At l) =
-      side-is-published column xs some _ (lower-distance (totals (length xs) xs) (l .0)) (lower-beyond-is xs (omega arith) (l .0))
+      side-is-published column xs _ (lower-distance (totals (length xs) xs) (l .0)) (lower-beyond-is xs some (l .0))
 
 -- Of a lot that has as many readings as it says.
 pub evaluated-as-published :
@@ -96,7 +96,7 @@ unfolding percentages-of
 evaluated-as-published found lot p counted e =
     let h = answered nearest found lot p e in
     let size : length (lot .readings) ≡ lot .n = counted (h .0 .few) in
-    let some : 2 ≤ length (lot .readings) = omega (arith, h .0 .least) in
+    let some : 1 ≤ length (lot .readings) = omega (arith, h .0 .least) in
     rw (sym (h .1))
     (record {
       upper-side = rw (sym size) (upper-is-published (entries found) (lot .readings) some (lot .upper));

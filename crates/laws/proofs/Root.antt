@@ -40,7 +40,7 @@ under-square : {n : ℕ} → 1 ≤ n → 1 ≤ n * n
 under-square h = mul-le-mul h h
 
 -- So where a root is itself a fraction q, a fraction stands to it as to q.
-module _ (x : Root) (q : Ratio) (proper : 1 ≤ q .under) (some : 1 ≤ x .square .under) (e : Same (x .square) (signed-square q)) (f : Ratio) (under : 1 ≤ f .under) where
+module _ (x : Root) (q : Ratio) (proper : 1 ≤ q .under) (some : 1 ≤ x .square .under) (e : Same (x .square) (signed-square q)) (f : Ratio) where
   to : AtMost (x .square) (signed-square q)
   to = same-at-most (x .square) (signed-square q) e
 

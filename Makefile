@@ -1,4 +1,4 @@
-.PHONY: run lib check test bench
+.PHONY: run lib install check test bench
 .DELETE_ON_ERROR:
 # objects stay, and no rule says that it removes one
 .SECONDARY:
@@ -9,7 +9,18 @@ LIBRARY := target/lib/libtulpavice
 HOSTS := hosts
 HOST := target/host
 SOURCES := $(shell find crates -name '*.rt' -o -name '*.antt')
-CFLAGS := -O2 -std=c99 -Wall -Wextra -Werror -Iinclude
+# whatever is compiled here holds the header's structs to their layout
+CFLAGS := -O2 -std=c99 -Wall -Wextra -Werror -Iinclude -include hosts/layout.h
+VERSION := $(shell sed -n 's/^.define TULPAVICE_VERSION "\(.*\)"$$/\1/p' include/tulpavice.h)
+# what a program that was built for one layout or one set of answers asks for when it is loaded, and no other
+SONAME := libtulpavice.so.$(firstword $(subst ., ,$(VERSION)))
+
+PREFIX ?= /usr/local
+BINDIR ?= $(PREFIX)/bin
+LIBDIR ?= $(PREFIX)/lib
+INCLUDEDIR ?= $(PREFIX)/include
+MANDIR ?= $(PREFIX)/share/man
+INSTALL ?= install
 
 # Document 000's worked example, as the notebook shows it.
 run: $(HOST)/notebook
@@ -17,6 +28,20 @@ run: $(HOST)/notebook
 
 # The library for C, and for whoever loads it.
 lib: $(LIBRARY).a $(LIBRARY).so
+
+# For packagers: PREFIX and the folders under it as users will have them, DESTDIR before them while a package is made.
+install: lib $(HOST)/notebook
+	$(INSTALL) -d $(DESTDIR)$(BINDIR) $(DESTDIR)$(LIBDIR)/pkgconfig $(DESTDIR)$(INCLUDEDIR) $(DESTDIR)$(MANDIR)/man1
+	$(INSTALL) -m 755 $(HOST)/notebook $(DESTDIR)$(BINDIR)/tulpavice-notebook
+	$(INSTALL) -m 644 $(LIBRARY).a $(DESTDIR)$(LIBDIR)
+	$(INSTALL) -m 755 $(LIBRARY).so $(DESTDIR)$(LIBDIR)/libtulpavice.so.$(VERSION)
+	ln -sf libtulpavice.so.$(VERSION) $(DESTDIR)$(LIBDIR)/$(SONAME)
+	ln -sf $(SONAME) $(DESTDIR)$(LIBDIR)/libtulpavice.so
+	$(INSTALL) -m 644 include/tulpavice.h $(DESTDIR)$(INCLUDEDIR)
+	sed 's|@VERSION@|$(VERSION)|; s|@PREFIX@|$(PREFIX)|; s|@LIBDIR@|$(LIBDIR)|; s|@INCLUDEDIR@|$(INCLUDEDIR)|' \
+	    hosts/tulpavice.pc.in > $(DESTDIR)$(LIBDIR)/pkgconfig/tulpavice.pc
+	sed 's|@VERSION@|$(VERSION)|' hosts/notebook.1.in > $(DESTDIR)$(MANDIR)/man1/tulpavice-notebook.1
+	chmod 644 $(DESTDIR)$(LIBDIR)/pkgconfig/tulpavice.pc $(DESTDIR)$(MANDIR)/man1/tulpavice-notebook.1
 
 # The edit loop: audits the tree, proves what changed, and tries the edits of what differs from the last commit, or from BASE.
 check:
@@ -44,7 +69,7 @@ $(LIBRARY).a: crates.txt $(SOURCES)
 $(LIBRARY).so: $(LIBRARY).a
 	@$(SHARED)
 
-$(HOST)/%.o: $(HOSTS)/%.c include/tulpavice.h
+$(HOST)/%.o: $(HOSTS)/%.c include/tulpavice.h hosts/layout.h
 	@mkdir -p $(@D)
 	@$(CC) $(CFLAGS) -c -o $@ $<
 
@@ -56,7 +81,7 @@ target/bench/table.h: bench/table.py data/table-106-1.tsv
 	@mkdir -p $(@D)
 	@python3 $^ > $@
 
-target/bench/%.o: bench/%.c $(wildcard bench/*.h) include/tulpavice.h target/bench/table.h
+target/bench/%.o: bench/%.c $(wildcard bench/*.h) include/tulpavice.h hosts/layout.h target/bench/table.h
 	@$(CC) $(CFLAGS) -Itarget/bench -c -o $@ $<
 
 target/bench/bench: $(patsubst bench/%.c,target/bench/%.o,$(wildcard bench/*.c)) $(LIBRARY).a

@@ -1,7 +1,7 @@
 /* The notebook: a program over the library's header alone. It shows the worked example of document 000, or answers the
    lots of a file, a line for each.
 
-   A lot is one line, in the papers' units, with blanks or tabs between its fields:
+   A lot is one line, in the papers' units, with blanks or tabs between its words:
 
        LOWER UPPER READING READING ...        such as        2.65 5.35 4.2 4.5 3.3 5.0
 
@@ -14,20 +14,38 @@
 #include <stdio.h>
 #include <string.h>
 
-static const char HELP[] =
-    "usage: notebook         shows a worked example\n"
-    "       notebook FILE    answers the lots of a file, or of standard input if FILE is -\n"
-    "\n"
-    "A lot is one line, LOWER UPPER READING READING ..., such as 2.65 5.35 4.2 4.5 3.3 5.0\n"
-    "Numbers have up to three decimals; a minus alone is an absent limit. Blank lines, and\n"
-    "lines that start with #, are passed over. A lot is answered with its line's number,\n"
-    "mean, deviation and percent within limits (PWL); a bad line is told on standard error.\n"
-    "Exit status: 0 no line was bad, 1 one was, 2 wrong usage or a file that fails.\n";
+/* The first line can be pasted into a shell, whatever name the program was called by. */
+static void show_help(FILE *out, const char *program)
+{
+    fprintf(out,
+            "echo 2.65 5.35 4.2 4.5 3.3 5.0 5.4 2.5 3.8 4.1 4.3 4.5 | %s -\n"
+            "line   1   mean    4.160   deviation   0.825   PWL  91.28\n"
+            "\n"
+            "usage: notebook                  shows a worked example\n"
+            "       notebook [--tabs] FILE    answers the lots of a file, or of standard\n"
+            "                                 input if FILE is -\n"
+            "       notebook --help           shows this\n"
+            "       notebook --version        shows which version this is\n"
+            "\n"
+            "A lot is one line: LOWER UPPER READING READING ..., with 2 to %d readings.\n"
+            "A number has up to three decimals; a minus alone is an absent limit. Blank\n"
+            "lines, and lines that start with #, are passed over. A lot is answered with\n"
+            "its line's number, mean, deviation and percent within limits (PWL); with\n"
+            "--tabs these stand under a header, with a tab between them. A bad line is\n"
+            "told on standard error, with its number, the word and the reason, and the\n"
+            "next is read.\n"
+            "\n"
+            "Exit status: 0 no line was bad, 1 one was, 2 wrong usage or a file that fails.\n",
+            program, TULPAVICE_MOST);
+}
 
 enum status { GOOD, BAD_LINE, TROUBLE };
 
 /* There is a place for one reading more than a lot can have: for it the library refuses the lot, whatever follows. */
 enum { PLACES = TULPAVICE_MOST + 1 };
+
+/* The words of a line come in this order, and then the other readings. */
+enum { LOWER, UPPER, FIRST_READING, WORDS = FIRST_READING + PLACES };
 
 struct lot {
     int32_t lower;
@@ -138,15 +156,28 @@ static void show_example(void)
 
 /* ---- The lots of a file, read a character at a time: no line is too long to be held, since none is held ---- */
 
+/* As much of a word as is told where it is wrong, and how long it is. */
+enum { TOLD = 24 };
+struct word {
+    char start[TOLD];
+    size_t length;
+};
+
 struct input {
     FILE *file;
     int next;
     unsigned long line;
+    struct word *word; /* which what is taken belongs to */
 };
 
 static int take(struct input *in)
 {
     int taken = in->next;
+    if (in->word) {
+        if (in->word->length < TOLD)
+            in->word->start[in->word->length] = (char)taken;
+        in->word->length++;
+    }
     in->next = getc(in->file);
     return taken;
 }
@@ -195,76 +226,161 @@ static const char *read_number(struct input *in, int32_t *thousandths, uint32_t 
     return at_blank(in) || at_line_end(in) ? NULL : NOT_A_NUMBER;
 }
 
-/* Fields are counted from 0: the limits, then the readings. */
-static const char *read_field(struct input *in, struct lot *lot, unsigned long field)
+/* What a line says: its lot, and its words, of which those after the last reading that has a place share one. */
+struct line {
+    struct lot lot;
+    size_t count;
+    struct word words[WORDS + 1];
+};
+
+static struct word *word_at(struct line *line, size_t at) { return &line->words[at < WORDS ? at : WORDS]; }
+
+/* The word that comes next, to its end even where it is wrong, since it is told whole. */
+static const char *read_word(struct input *in, struct line *line)
 {
-    int32_t reading = 0;
+    struct lot *lot = &line->lot;
+    size_t at = line->count++;
+    int32_t number = 0;
     uint32_t present = 0;
-    if (field == 0)
-        return read_number(in, &lot->lower, &lot->lower_present);
-    if (field == 1)
-        return read_number(in, &lot->upper, &lot->upper_present);
-    const char *wrong = read_number(in, &reading, &present);
-    if (lot->count < PLACES)
-        lot->readings[lot->count++] = reading;
-    return wrong || present ? wrong : NOT_A_NUMBER;
+    in->word = word_at(line, at);
+    in->word->length = 0;
+    const char *wrong = read_number(in, &number, &present);
+    while (!at_blank(in) && !at_line_end(in))
+        take(in);
+    in->word = NULL;
+    if (at == LOWER) {
+        lot->lower = number;
+        lot->lower_present = present;
+    } else if (at == UPPER) {
+        lot->upper = number;
+        lot->upper_present = present;
+    } else if (!wrong && !present)
+        wrong = NOT_A_NUMBER;
+    else if (lot->count < PLACES)
+        lot->readings[lot->count++] = number;
+    return wrong;
 }
 
-/* Stops at the end of the line, or in the field that is wrong. */
-static const char *read_lot(struct input *in, struct lot *lot, unsigned long *field)
+/* Stops at the end of the line, or behind the first word that is wrong. */
+static const char *read_line(struct input *in, struct line *line)
 {
-    for (*field = 0;; ++*field) {
+    const char *wrong = NULL;
+    while (!wrong && !at_line_end(in)) {
+        wrong = read_word(in, line);
         while (at_blank(in))
             take(in);
-        if (at_line_end(in))
-            return *field < 2 ? "is missing" : NULL;
-        const char *wrong = read_field(in, lot, *field);
-        if (wrong)
-            return wrong;
     }
+    return wrong;
 }
 
-static const char *why(uint32_t refusal)
+/* A byte that is no letter, digit or sign of ASCII could do anything to a terminal, and is told by its number. */
+static void tell_word(const struct word *word)
 {
+    fputs(" \"", stderr);
+    for (size_t i = 0; i < word->length && i < TOLD; i++) {
+        unsigned char byte = (unsigned char)word->start[i];
+        fprintf(stderr, byte > ' ' && byte < 127 ? "%c" : "\\x%02x", byte);
+    }
+    fputs(word->length > TOLD ? "...\"" : "\"", stderr);
+}
+
+static void tell_place(struct line *line, size_t at)
+{
+    if (at < FIRST_READING)
+        fputs(at == LOWER ? "the lower limit" : "the upper limit", stderr);
+    else
+        fprintf(stderr, "reading %lu", (unsigned long)(at - FIRST_READING + 1));
+    tell_word(word_at(line, at));
+}
+
+/* Which numbers are in range is for the library to say: it takes one of them twice, or refuses it. */
+static int out_of_range(int32_t number)
+{
+    const int32_t twice[] = {number, number};
+    return tulpavice_mean(twice, 2).refusal.number == 5;
+}
+
+/* Of a lot with a number out of range: the word of the first, the upper limit before the lower. */
+static size_t first_out_of_range(const struct lot *lot)
+{
+    size_t i = 0;
+    if (lot->upper_present && out_of_range(lot->upper))
+        return UPPER;
+    if (lot->lower_present && out_of_range(lot->lower))
+        return LOWER;
+    while (i + 1 < lot->count && !out_of_range(lot->readings[i]))
+        i++;
+    return FIRST_READING + i;
+}
+
+static void tell_refusal(struct line *line, uint32_t refusal)
+{
+    fprintf(stderr, "refusal %d, ", (int)refusal);
     switch (refusal) {
-    case 4: return "too few readings, or too many";
-    case 5: return "a limit or a reading out of range";
-    case 6: return "both limits absent";
-    case 7: return "the lower limit above the upper";
-    default: return "the header says why";
+    case 4:
+        fprintf(stderr, "a lot has 2 to %d readings, and this has %lu", TULPAVICE_MOST,
+                (unsigned long)(line->count - FIRST_READING));
+        break;
+    case 5:
+        tell_place(line, first_out_of_range(&line->lot));
+        fputs(" is out of range", stderr);
+        break;
+    case 6:
+        fputs("both limits are absent", stderr);
+        break;
+    case 7:
+        tell_place(line, LOWER);
+        fputs(" is above ", stderr);
+        tell_place(line, UPPER);
+        break;
+    default:
+        fputs("the header says why", stderr);
     }
 }
 
-static enum status answer_line(struct input *in)
+static void show_row(unsigned long line, const struct row *row, int tabs)
 {
-    struct lot lot = {0};
-    unsigned long field;
+    printf(tabs ? "%lu\t%.3f\t%.3f\t%.2f\n" : "line %3lu   mean %8.3f   deviation %7.3f   PWL %6.2f\n", line, row->mean,
+           row->deviation, row->pwl);
+}
+
+static enum status answer_line(struct input *in, int tabs)
+{
+    struct line line = {0};
     struct row row = {0, 0, 0, 0};
-    const char *wrong = read_lot(in, &lot, &field);
-    if (!wrong)
-        row = row_of(&lot);
+    const char *wrong = read_line(in, &line);
+    int missing = !wrong && line.count < FIRST_READING;
+    if (!wrong && !missing)
+        row = row_of(&line.lot);
     if (ferror(in->file)) /* a line cut short is not the lot that was meant */
         return TROUBLE;
+    if (!wrong && !missing && !row.refusal) {
+        show_row(in->line, &row, tabs);
+        return GOOD;
+    }
     fflush(stdout); /* lines keep their order where both streams go to one place */
-    if (wrong && field < 2)
-        fprintf(stderr, "notebook: line %lu: the %s limit %s\n", in->line, field == 0 ? "lower" : "upper", wrong);
-    else if (wrong)
-        fprintf(stderr, "notebook: line %lu: reading %lu %s\n", in->line, field - 1, wrong);
-    else if (row.refusal)
-        fprintf(stderr, "notebook: line %lu: refusal %d, %s\n", in->line, (int)row.refusal, why(row.refusal));
-    else
-        printf("line %3lu   mean %8.3f   deviation %7.3f   PWL %6.2f\n", in->line, row.mean, row.deviation, row.pwl);
-    return wrong || row.refusal ? BAD_LINE : GOOD;
+    fprintf(stderr, "notebook: line %lu: ", in->line);
+    if (missing)
+        fputs("the upper limit is missing", stderr);
+    else if (wrong) {
+        tell_place(&line, line.count - 1);
+        fprintf(stderr, " %s", wrong);
+    } else
+        tell_refusal(&line, row.refusal);
+    fputs("\n", stderr);
+    return BAD_LINE;
 }
 
-static enum status answer_lots(FILE *file)
+static enum status answer_lots(FILE *file, int tabs)
 {
-    struct input in = {file, getc(file), 1};
+    struct input in = {file, getc(file), 1, NULL};
     enum status status = GOOD;
+    if (tabs)
+        printf("line\tmean\tdeviation\tPWL\n");
     for (; in.next != EOF; in.line++) {
         while (at_blank(&in))
             take(&in);
-        if (in.next != '#' && !at_line_end(&in) && answer_line(&in) != GOOD)
+        if (in.next != '#' && !at_line_end(&in) && answer_line(&in, tabs) != GOOD)
             status = BAD_LINE;
         while (!at_line_end(&in))
             take(&in);
@@ -274,7 +390,7 @@ static enum status answer_lots(FILE *file)
     return ferror(file) ? TROUBLE : status;
 }
 
-static enum status answer_file(const char *name)
+static enum status answer_file(const char *name, int tabs)
 {
     int standard = strcmp(name, "-") == 0;
     FILE *file = standard ? stdin : fopen(name, "r");
@@ -282,7 +398,7 @@ static enum status answer_file(const char *name)
         fprintf(stderr, "notebook: %s cannot be opened: %s\n", name, strerror(errno));
         return TROUBLE;
     }
-    enum status status = answer_lots(file);
+    enum status status = answer_lots(file, tabs);
     if (status == TROUBLE)
         fprintf(stderr, "notebook: %s cannot be read\n", standard ? "standard input" : name);
     if (!standard)
@@ -290,17 +406,30 @@ static enum status answer_file(const char *name)
     return status;
 }
 
-int main(int argc, char **argv)
+/* What begins with a minus, and is more, is an option, known or not; a file of such a name has a path, as ./-x. */
+static int is_option(const char *word) { return word[0] == '-' && word[1]; }
+
+static enum status answer(int argc, char **argv)
 {
-    enum status status = argc > 2 ? TROUBLE : GOOD;
+    int tabs = argc > 1 && strcmp(argv[1], "--tabs") == 0;
     if (argc < 2)
         show_example();
-    else if (argc > 2)
-        fputs(HELP, stderr);
-    else if (strcmp(argv[1], "--help") == 0)
-        fputs(HELP, stdout);
-    else
-        status = answer_file(argv[1]);
+    else if (argc == 2 && strcmp(argv[1], "--help") == 0)
+        show_help(stdout, argv[0]);
+    else if (argc == 2 && strcmp(argv[1], "--version") == 0)
+        printf("notebook (Tulpavice) %s\n", TULPAVICE_VERSION);
+    else if (argc == 2 + tabs && !is_option(argv[1 + tabs]))
+        return answer_file(argv[1 + tabs], tabs);
+    else {
+        show_help(stderr, argv[0]);
+        return TROUBLE;
+    }
+    return GOOD;
+}
+
+int main(int argc, char **argv)
+{
+    enum status status = answer(argc, argv);
     if (fflush(stdout) == 0 && !ferror(stdout))
         return status;
     fprintf(stderr, "notebook: the answers cannot be written\n");

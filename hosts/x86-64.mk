@@ -6,7 +6,7 @@ MACHINE := $(shell uname -m)
 ifeq ($(MACHINE),x86_64)
 CC := gcc
 LINK = gcc -o $@
-SHARED = gcc -shared -o $@ -Wl,--whole-archive $< -Wl,--no-whole-archive
+SHARED = gcc -shared -Wl,-soname,$(SONAME) -o $@ -Wl,--whole-archive $< -Wl,--no-whole-archive
 RUN :=
 else
 KIT := $(or $(RATTLE_HOME),$(shell dirname "$$(dirname "$$(readlink -f "$$(command -v rt)")")"))
@@ -16,6 +16,6 @@ TOOLS := $(HERE)/toolchain
 CC := $(TOOLS)/bin/clang --target=x86_64-linux-gnu -fPIC -nostdinc -isystem $(shell gcc -print-file-name=include) \
       -isystem /usr/include -isystem /usr/include/$(shell gcc -dumpmachine)
 LINK = $(HERE)/bin/rattle-link --target x86_64-unknown-linux-gnu --toolchain $(TOOLS) -o $@
-SHARED = $(TOOLS)/bin/ld.lld -shared -o $@ --whole-archive $< --no-whole-archive
+SHARED = $(TOOLS)/bin/ld.lld -shared -soname $(SONAME) -o $@ --whole-archive $< --no-whole-archive
 RUN := $(TOOLS)/bin/qemu-x86_64 $(TOOLS)/lib/ld-linux-x86-64.so.2 --library-path $(TOOLS)/lib
 endif

@@ -21,7 +21,18 @@
    is 0 for none; of what is refused every other number is 0.
 
    A limit is a number and a presence: 0 is absent, and its number is then not read; any other is present.
-   Lent memory is a pointer and how many items it points to. NULL will do where there are none. */
+
+   What a caller owes. The numbers and bytes may be any; these things the library cannot see for itself, and where one
+   does not hold, nothing is promised:
+
+     - Lent memory is a pointer and how many items it points to. That many can be read there or, where it is lent to
+       be written, read and written, from before the call until it returns.
+     - The pointer is aligned for its items. Bytes may stand anywhere.
+     - NULL may be passed with no items, and with no items alone.
+     - Nobody else writes lent memory during the call, and nobody else reads what is lent to be written.
+
+   The library keeps no pointer when a call has returned, holds no state, allocates nothing and writes nothing but its
+   answer and what is lent to be written: calls may be made from several threads at once. */
 #ifndef TULPAVICE_H
 #define TULPAVICE_H
 
@@ -31,6 +42,10 @@
 #ifdef __cplusplus
 extern "C" {
 #endif
+
+/* The first number goes up where a program must be built anew or is answered otherwise, the second where more is
+   offered. docs/VERSIONS.md says what each version has. */
+#define TULPAVICE_VERSION "1.0.0"
 
 /* The most readings that a lot can hold. */
 #define TULPAVICE_MOST 10

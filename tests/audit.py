@@ -3,6 +3,7 @@ import re
 import sys
 from pathlib import Path
 
+from edge import exports_are_declared, structs_are_laid_out_alike
 from edits import edited, every_edit, fell_elsewhere, kit_edits, not_a_fact, own_edits
 from texts import EDGE, NAME, antt_files, brought, declared, functions, plain_rattle, texts
 
@@ -80,15 +81,6 @@ def promises_are_guarded(root):
     refused = {edit.name: {f"{edit.crate}::{name}" for name in edit.refused.split()} for edit in own_edits(root) + kit_edits(root)}
     return [f"{PROMISES}: no edit in the row of `{name}` is refused in its own proof" for name, row in rows(root, ENTRIES) + rows(root, INNER)
             if meant(name, every) and not any(name in refused.get(edit, ()) for edit in re.findall(EDIT_NAME, row))]
-
-
-def exports_are_declared(root):
-    """include/tulpavice.h declares every exported function, and no other."""
-    file = root / "include/tulpavice.h"
-    text = re.sub(r"/\*.*?\*/", "", file.read_text("utf-8"), flags=re.S) if file.exists() else ""
-    declared_, exported = set(re.findall(r"\b(\w+)\(", text)), {f.name: f.place for f in functions(root) if f.exported}
-    return ([f"{exported[name]}: `{name}` is exported, and include/tulpavice.h does not declare it" for name in sorted(set(exported) - declared_)]
-            + [f"include/tulpavice.h: no exported function is `{name}`" for name in sorted(declared_ - set(exported))])
 
 
 def librarys(path, name):
@@ -216,7 +208,7 @@ def named_things_are_there(root):
 
 
 RULES = [promises_are_made, entries_ask_nothing, entries_exist, public_functions_are_listed, promises_are_guarded, exports_are_declared,
-         symbols_mean_the_librarys, imports_are_used, no_hole_is_left, edits_can_be_planted, edits_differ, edits_are_listed, named_things_are_there]
+         structs_are_laid_out_alike, symbols_mean_the_librarys, imports_are_used, no_hole_is_left, edits_can_be_planted, edits_differ, edits_are_listed, named_things_are_there]
 
 
 def kit_edits_are_refused_for_a_fact(root):

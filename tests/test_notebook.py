@@ -4,6 +4,7 @@ import pathlib
 import pty
 import random
 import re
+import shlex
 import statistics
 import subprocess
 import tempfile
@@ -183,79 +184,102 @@ class Lots(unittest.TestCase):
         self.answered("- 500 500 500\n-500 - -500.000 -500", ["500.000 0.000 100.00", "-500.000 0.000 100.00"])
 
 
+def shown(word):
+    """A word as it is told: its first 24 bytes, and by its number each that is no letter, digit or sign."""
+    start = "".join(chr(byte) if 32 < byte < 127 else f"\\x{byte:02x}" for byte in word[:24])
+    return f'"{start}{"..." * (len(word) > 24)}"'
+
+
 class BadLines(unittest.TestCase):
     """Lines that are told. Good ones, before and after, are answered all the same."""
 
-    def told(self, fault, *bad):
-        """Each line has this fault, told by the line's number; a refusal is known by its own number alone."""
+    def told(self, faults):
+        """Each line has its fault, told by the line's number."""
         good = b"- 4 4 4"
-        bad = [line if isinstance(line, bytes) else line.encode() for line in bad]
-        said, status = read(b"\n".join([good, *(line + b"\n" + good for line in bad)]))
-        said = [re.sub(r"^(refusal \d+), .+$", r"\1", said[i]) for i in sorted(said)]
-        self.assertEqual(list(zip(bad, said[1::2])), [(line, fault) for line in bad])
-        self.assertEqual((said[::2], status), (["4.000 0.000 100.00"] * (len(bad) + 1), 1))
+        said, status = read(b"\n".join([good, *(line + b"\n" + good for line in faults)]))
+        said = [said[i] for i in sorted(said)]
+        self.assertEqual(dict(zip(faults, said[1::2])), faults)
+        self.assertEqual((said[::2], status), (["4.000 0.000 100.00"] * (len(faults) + 1), 1))
+
+    def words(self, fault, line, *words):
+        """Where each word stands in a line, it has this fault."""
+        words = [word if isinstance(word, bytes) else word.encode() for word in words]
+        self.told({line.encode().replace(b"{}", word): fault.replace("{}", shown(word)) for word in words})
 
     def refused(self, refusal, *bad):
-        self.told(f"refusal {refusal}", *bad)
+        """Each line is refused, with these words after the refusal's number."""
+        self.told({line.encode(): f"refusal {refusal}" for line in bad})
 
     def test_not_a_number(self):
-        words = "x +4 .5 5. 4,2 4.2.1 1e3 4e 0x10 nan inf --4 -x -.5 4- 4.2x 4.x 4.-2 -4- 1_000 4# $4 4% \u0664".split()
-        self.told("the lower limit is not a number", *(f"{word} 5 4 4" for word in words))
-        self.told("the upper limit is not a number", *(f"4 {word} 4 4" for word in [*words, "#"]))
-        self.told("reading 2 is not a number", *(f"- 5 4 {word} 4" for word in [*words, "#", "-"]))
+        words = "x +4 .5 5. 4,2 4.2.1 1e3 4e 0x10 nan inf --4 -x -.5 4- 4.2x 4.x 4.-2 -4- 1_000 4# $4 4% \u0664 x\"y 4.2\\n".split()
+        self.words("the lower limit {} is not a number", "{} 5 4 4", *words)
+        self.words("the upper limit {} is not a number", "4 {} 4 4", *words, "#")
+        self.words("reading 2 {} is not a number", "- 5 4 {} 4", *words, "#", "-")
 
     def test_more_than_three_decimals(self):
-        words = "4.0001 4.20001 4.0000000001 -0.0005 0.9999 500.0001".split()
+        words = "4.0001 4.20001 4.0000000001 -0.0005 0.9999 500.0001 4.0001x".split()
         words += [f"4.{'0' * 9000}1", f"{'9' * 9000}.0001"]
-        self.told("the lower limit has more than three decimals", *(f"{word} 5 4 4" for word in words))
-        self.told("the upper limit has more than three decimals", *(f"- {word} 4 4" for word in words))
-        self.told("reading 1 has more than three decimals", *(f"- 5 {word} 4" for word in words))
+        self.words("the lower limit {} has more than three decimals", "{} 5 4 4", *words)
+        self.words("the upper limit {} has more than three decimals", "- {} 4 4", *words)
+        self.words("reading 1 {} has more than three decimals", "- 5 {} 4", *words)
+
+    def test_how_long_a_word_is_told(self):
+        words = ["x" * n for n in (1, 2, 23, 24, 25, 26, 100, 70000)]
+        self.words("the lower limit {} is not a number", "{} 5 4 4", *words)
+        self.words("reading 11 {} is not a number", f"- 5{' 4' * 10} {{}}", *words)
+        self.words("reading 12 {} is not a number", f"- 5{' 4' * 11} {{}} 4", *words)
 
     def test_one_limit_and_nothing_else(self):
-        self.told("the upper limit is missing", "5", "-", " 5\t", "5\r")
+        self.told(dict.fromkeys([b"5", b"-", b" 5\t", b"5\r"], "the upper limit is missing"))
 
     def test_the_first_fault_is_told(self):
-        self.told("the lower limit is not a number", "x", "x y", "x 4.0001")
-        self.told("reading 1 has more than three decimals", "- 5 4.0001 x", "- - 4.0001")
-        self.told("reading 13 is not a number", "- -" + " 4" * 12 + " x 4 y")
+        self.told({b"x": 'the lower limit "x" is not a number', b"x y": 'the lower limit "x" is not a number',
+                   b"x 4.0001": 'the lower limit "x" is not a number',
+                   b"- 5 4.0001 x": 'reading 1 "4.0001" has more than three decimals',
+                   b"- - 4.0001": 'reading 1 "4.0001" has more than three decimals',
+                   b"- -" + b" 4" * 12 + b" x 4 y": 'reading 13 "x" is not a number'})
 
     def test_bytes_that_are_no_text(self):
-        self.told("the lower limit is not a number", b"\0", b"\0- 5 4 4", b"\xef\xbb\xbf- 5 4 4")
-        self.told("reading 1 is not a number", b"- 5 \0", b"- 5 4\0 4", b"- 5 4\0004", b"- 5 4\x0b4", b"- 5 4\x1a")
-        self.told("reading 2 is not a number", b"- 5 4 \0", b"- 5 4 4\xff", b"- 5 4 4\0")
+        self.words("the lower limit {} is not a number", "{} 5 4 4", b"\0", b"\0-", b"\xef\xbb\xbf-", b"\x1b[2J")
+        self.words("reading 1 {} is not a number", "- 5 {}", b"\0", b"4\0", b"4\0004", b"4\x0b4", b"4\x1a", b"\x7f")
+        self.words("reading 2 {} is not a number", "- 5 4 {}", b"\0", b"4\xff", b"4\0")
 
     def test_wrong_number_of_readings(self):
-        self.refused(4, "- 5", "- 5 4", "4 5 4", *("- 5" + " 4" * n for n in (11, 12, 256 + 2, 10000, 65536 + 2)))
+        for line, count in {"- 5": 0, "- 5 4": 1, "4 5 4": 1, **{"- 5" + " 4" * n: n for n in (11, 12, 256 + 2, 10000, 65536 + 2)}}.items():
+            self.refused(f"4, a lot has 2 to 10 readings, and this has {count}", line)
 
     def test_out_of_range(self):
-        self.refused(5, "- 500.001 4 4", "-500.001 - 4 4", "-500.001 500 4 4", "- 5 500.001 4", "- 5 4 -500.001")
+        self.refused('5, the upper limit "500.001" is out of range', "- 500.001 4 4", "-501 500.001 501 4")
+        self.refused('5, the lower limit "-500.001" is out of range', "-500.001 - 4 4", "-500.001 500 4 4", "-500.001 - 501 4")
+        self.refused('5, reading 1 "500.001" is out of range', "- 5 500.001 4", "- 5 500.001 501")
+        self.refused('5, reading 2 "-500.001" is out of range', "- 5 4 -500.001", "- 5 4 -500.001 501")
+        self.refused('5, reading 10 "501" is out of range', "- 5" + " 4" * 9 + " 501")
 
     def test_numbers_too_large_for_any_type(self):
         """Some would be 4 if they wrapped at 32 or 64 bits."""
         whole = [2**31 - 1, 2**31, 2**32, 2**32 + 4000, 2**63 - 1, 2**63, 2**64, 2**64 + 4000, 10**4000 + 4000]
         large = [f"{n // 1000}.{n % 1000:03}" for n in whole] + [f"{2**32 + 4}", f"{2**64 + 4}", "9" * 9000]
         large += [f"-{word}" for word in large]
-        shapes = "- 5 {} 4", "- 5 4 {}", "{} - 4 4", "- {} 4 4", "{0} {0} 4 4"
-        self.refused(5, *(shape.format(word) for word in large for shape in shapes))
+        for place, lines in {"reading 1": ["- 5 {} 4"], "reading 2": ["- 5 4 {}"], "the lower limit": ["{} - 4 4"],
+                             "the upper limit": ["- {} 4 4", "{} {} 4 4"]}.items():
+            for line in lines:
+                self.words(f"refusal 5, {place} {{}} is out of range", line, *large)
 
     def test_both_limits_absent(self):
-        self.refused(6, "- - 4 4", "-\t-\t4.000\t5")
+        self.refused("6, both limits are absent", "- - 4 4", "-\t-\t4.000\t5")
 
     def test_lower_limit_above_the_upper(self):
-        self.refused(7, "5 4 4 4", "4.001 4 4 4", "0.001 -0.001 0 0", "-1 -2 0 0")
+        for lower, upper in ("5", "4"), ("4.001", "4"), ("0.001", "-0.001"), ("-1", "-2"):
+            self.refused(f'7, the lower limit "{lower}" is above the upper limit "{upper}"', f"{lower} {upper} 4 4")
 
     def test_the_lowest_refusal_is_told(self):
-        self.refused(4, "- - 4", "501 - 4", "5 4 4", "- 5 501", "- -", "5 4 501" + " 4" * 10)
-        self.refused(5, "- - 501 4", "5 4 4 501", "501 4 4 4", "5 -501 4 4")
-
-    def test_refusals_come_with_words(self):
-        said, _ = read("- 5 4\n- 501 4 4\n- - 4 4\n5 4 4 4")
-        self.assertEqual([said[i][:11] for i in range(1, 5)], [f"refusal {i}, " for i in range(4, 8)])
-        self.assertEqual(len(set(said.values())), 4)
-        self.assertIn("readings", said[1])
-        self.assertIn("range", said[2])
-        self.assertIn("absent", said[3])
-        self.assertIn("above", said[4])
+        self.refused("4, a lot has 2 to 10 readings, and this has 1", "- - 4", "501 - 4", "5 4 4", "- 5 501")
+        self.refused("4, a lot has 2 to 10 readings, and this has 0", "- -")
+        self.refused("4, a lot has 2 to 10 readings, and this has 11", "5 4 501" + " 4" * 10)
+        self.refused('5, reading 1 "501" is out of range', "- - 501 4")
+        self.refused('5, reading 2 "501" is out of range', "5 4 4 501")
+        self.refused('5, the lower limit "501" is out of range', "501 4 4 4")
+        self.refused('5, the upper limit "-501" is out of range', "5 -501 4 4")
 
     def test_a_line_is_no_part_of_the_next(self):
         said, status = read("3 5 4 4 4 4 4 4 4 4 4 4\n- - 4 4\n3 5 4 x\n- 5 4\n4 5 x\n- - 4 4\n3 5 4 4")
@@ -270,7 +294,7 @@ class BadLines(unittest.TestCase):
     def test_long_lines(self):
         much, row = 300000, "4.000 0.000 100.00"
         text = "\n".join(["#" + " 4 x" * much, " " * much, "- 5 4" + "\t" * much + "4", "x" * much, "- 5 4 4"])
-        self.assertEqual(read(text), ({3: row, 4: "the lower limit is not a number", 5: row}, 1))
+        self.assertEqual(read(text), ({3: row, 4: f"the lower limit {shown(b'x' * much)} is not a number", 5: row}, 1))
 
 
 class Usage(unittest.TestCase):
@@ -278,10 +302,56 @@ class Usage(unittest.TestCase):
         ran = notebook("--help")
         self.assertEqual((ran.stderr, ran.returncode), (b"", 0))
         self.assertIn(b"LOWER UPPER READING", ran.stdout)
+        self.assertLess(max(map(len, ran.stdout.splitlines()[1:])), 80)
 
-    def test_more_than_one_word(self):
-        ran = notebook("-", "-", input=b"- 4 4 4\n")
-        self.assertEqual((ran.stdout, ran.stderr, ran.returncode), (b"", notebook("--help").stdout, 2))
+    def test_help_begins_with_a_line_that_can_be_pasted(self):
+        """What it shows is answered; here the program may need an emulator's words before its name."""
+        command, answer, _ = notebook("--help").stdout.decode().split("\n", 2)
+        name = str(ROOT / PROGRAM)
+        self.assertTrue(command.endswith(f" | {name} -"), command)
+        ran = subprocess.run(["sh", "-c", command.replace(name, shlex.join(COMMAND))], capture_output=True, text=True)
+        self.assertEqual((ran.stdout, ran.stderr, ran.returncode), (f"{answer}\n", "", 0))
+        self.assertEqual(lines(ANSWER, answer.encode()), [(1, ROWS["Voids"])])
+
+    def test_the_manual_s_examples(self):
+        """The page is a text for roff, in which a minus is written with a backslash."""
+        page = (ROOT / "hosts/notebook.1.in").read_text("utf-8").replace("\\-", "-")
+        examples = re.findall(r"^\$ (echo .*) \| tulpavice-notebook -\n(.+)$", page, re.M)
+        self.assertEqual(len(examples), 2)
+        for command, printed in examples:
+            ran = subprocess.run(["sh", "-c", f"{command} | {shlex.join(COMMAND)} -"], capture_output=True, text=True)
+            self.assertEqual(ran.stdout + ran.stderr, f"{printed}\n")
+
+    def test_the_manual_names_what_help_names(self):
+        page = (ROOT / "hosts/notebook.1.in").read_text("utf-8").replace("\\-", "-")
+        options = set(re.findall(rb"--\w+", notebook("--help").stdout))
+        self.assertEqual({word.encode() for word in re.findall(r"^\.B (--\w+)$", page, re.M)}, options)
+
+    def test_version(self):
+        """The header has it, and docs/VERSIONS.md begins with it."""
+        ran = notebook("--version")
+        version = re.search(r'^#define TULPAVICE_VERSION "(\d+\.\d+\.\d+)"$', (ROOT / "include/tulpavice.h").read_text("utf-8"), re.M)[1]
+        self.assertEqual((ran.stdout.decode(), ran.stderr, ran.returncode), (f"notebook (Tulpavice) {version}\n", b"", 0))
+        self.assertEqual(re.search(r"^## (\S+)", (ROOT / "docs/VERSIONS.md").read_text("utf-8"), re.M)[1], version)
+
+    def test_tabs(self):
+        """The same answers under a header, to be split at tabs; what is bad is told as it is without."""
+        text = "".join(f"{LIMITS[name]} {READINGS[name]}\n\n" for name in READINGS) + "- 4 x\n-1 - -1 -1\n- 500 500 500"
+        plain, tabs = (notebook(*words, "-", input=text.encode()) for words in ([], ["--tabs"]))
+        header, *rows = [line.split("\t") for line in tabs.stdout.decode().splitlines()]
+        self.assertEqual(header, ["line", "mean", "deviation", "PWL"])
+        self.assertEqual([(int(row[0]), " ".join(row[1:])) for row in rows], lines(ANSWER, plain.stdout))
+        self.assertEqual([row[1:] for row in rows[:3]], [row.split() for row in ROWS.values()])
+        self.assertEqual((tabs.stderr, tabs.returncode), (plain.stderr, 1))
+
+    def test_tabs_of_no_lots(self):
+        ran = notebook("--tabs", "-", input=b"# none\n")
+        self.assertEqual((ran.stdout, ran.stderr, ran.returncode), (b"line\tmean\tdeviation\tPWL\n", b"", 0))
+
+    def test_words_that_are_not_understood(self):
+        for words in ["-", "-"], ["--tabs"], ["--tabs", "-", "-"], ["-", "--tabs"], ["--tab", "-"], ["-x"], ["--tabs", "--help"], ["--help", "-"], ["--"]:
+            ran = notebook(*words, input=b"- 4 4 4\n")
+            self.assertEqual((ran.stdout, ran.stderr, ran.returncode), (b"", notebook("--help").stdout, 2))
 
     def test_a_file_that_cannot_be_opened(self):
         with tempfile.TemporaryDirectory() as folder:

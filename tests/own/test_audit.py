@@ -16,6 +16,8 @@ LOG = "target/must-fail/toy/two_more/.log"
 PROMISES = "docs/PROMISES.md"
 README = "README.md"
 HEADER = "include/tulpavice.h"
+LAYOUT = "hosts/layout.h"
+HOST = "crates/toy/src/host.rt"
 # what stands for the folder of the small tree, in a log
 HERE = "{root}/target/must-fail/toy/two_more/"
 
@@ -104,6 +106,7 @@ module _ (n : ℕ) where
 | entry | definition | promise | must-fail edits |
 |---|---|---|---|
 | `toy::Pair::first` | `total`, toy/specs/Sum.antt | it is the first; `law`, Laws.antt | toy/one_less, toy/second_for_first |
+| `toy::host::toy_read` | the lot | it is the lot | toy/lot_lost |
 | `toy::toy_mean` | `Sums`, in toy/specs | it is the mean | toy/one_more, toy/two_more |
 
 | function | requires | promise | must-fail edits |
@@ -122,8 +125,65 @@ module _ (n : ℕ) where
 `none-such` in src/none.rt
 ```
 ''',
+    HOST: """// What C is given.
+#[repr(C)]
+pub struct HostPair {
+    pub lower: i32,
+    pub upper: i32,
+}
+
+#[repr(C)]
+pub struct HostLot {
+    pub count: u32,
+    pub limits: HostPair,
+    pub total: f64,
+    pub first: i32,
+    pub second: i32,
+}
+
+#[repr(C)]
+pub struct HostRead {
+    pub refusal: u32,
+    pub lot: HostLot,
+}
+
+pub extern "C" fn toy_read(lot: HostLot, bytes: &[u8], out: &mut [u8]) -> HostRead
+    ensures { λ r. ⌜ r ≡ lot ⌝ }
+{
+    read(lot)
+}
+""",
     HEADER: """/* toy_none(x) is not declared. */
+#define TULPAVICE_MOST 2
+
+struct tulpavice_lot {
+    uint32_t count;
+    int32_t limits_lower;
+    int32_t limits_upper;
+    double total;
+    int32_t readings[TULPAVICE_MOST]; /* int32_t spare; */
+};
+
+struct tulpavice_read {
+    uint32_t refusal;
+    struct tulpavice_lot lot;
+};
+
 uint8_t toy_mean(const uint8_t *x, size_t n);
+
+struct tulpavice_read toy_read(struct tulpavice_lot lot,
+                               const uint8_t *bytes, size_t size, uint8_t *out, size_t room);
+""",
+    LAYOUT: """/* AT(lot, none, 0); */
+SIZE(lot, 32);
+AT(lot, count, 0);
+AT(lot, limits_lower, 4);
+AT(lot, limits_upper, 8);
+AT(lot, total, 16);
+AT(lot, readings, 24);
+SIZE(read, 40);
+AT(read, refusal, 0);
+AT(read, lot, 8);
 """,
     EDIT: "# the mean is one too large\nrefused: toy_mean\nfile: crates/toy/src/lib.rt\nold: { 1 }\nnew: { 2 }\n",
     LESS: "# the mean is one too small\nrefused: toy_mean\nfile: crates/toy/src/lib.rt\nold: { 1 }\nnew: { 0 }\n",
@@ -131,6 +191,8 @@ uint8_t toy_mean(const uint8_t *x, size_t n);
         "# the second stands for the first\nrefused: Pair::first\nfile: crates/toy/src/lib.rt\nold: inner::kept(\nnew: inner::kept(1 + \n",
     "must-fail/toy/kept_lost.edit":
         "# nothing is kept\nrefused: inner::kept\nfile: crates/toy/src/inner.rt\nold: x < 3\nnew: x < 4\n",
+    "must-fail/toy/lot_lost.edit":
+        "# no lot is read\nrefused: host::toy_read\nfile: crates/toy/src/host.rt\nold: read(lot)\nnew: read(none)\n",
     KIT_EDIT: "# the mean is two too large\nrefused: Laws\nfile: src/lib.rt\nold: { 1 }\nnew: { 3 }\n",
     LOG: f'''{HERE}proofs/Laws.antt:6:7: error: `law`: computed as far as they go, the two types differ
   `κs` is not in scope here, so what is shown does not paste back as it stands
@@ -178,9 +240,30 @@ FAULTS = {
         "a_row_that_names_other_edits": (PROMISES, "| toy/kept_lost |\n", "| toy/one_more |\n\ntoy/kept_lost\n"),
     },
     "exports_are_declared": {
-        "no_header": (HEADER, TREE[HEADER], None),
+        "nothing_declared": (HEADER, TREE[HEADER][TREE[HEADER].index("uint8_t toy_mean"):], ""),
         "an_export_in_a_comment": (HEADER, "uint8_t toy_mean(const uint8_t *x, size_t n);", "/* toy_mean(x, n) */"),
-        "a_name_that_is_not_exported": (HEADER, "toy_mean(", "toy_mean(int y);\nuint8_t toy_none("),
+        "a_name_that_is_not_exported": (HEADER, "uint8_t toy_mean(", "uint8_t toy_none(void);\nuint8_t toy_mean("),
+        "another_answer": (HEADER, "uint8_t toy_mean(", "int32_t toy_mean("),
+        "another_parameter": (HEADER, "size_t n)", "int32_t n)"),
+        "another_name": (HEADER, "(const uint8_t *x,", "(const uint8_t *y,"),
+        "a_size_that_is_missing": (HEADER, "*bytes, size_t size,", "*bytes,"),
+        "what_is_lent_to_be_read": (HEADER, "const uint8_t *bytes", "uint8_t *bytes"),
+        "what_is_lent_to_be_written": (LIB, "&[u8; 4], n", "&mut [u8; 4], n"),
+        "slices_exchanged": (HOST, "bytes: &[u8], out: &mut [u8]", "out: &mut [u8], bytes: &[u8]"),
+    },
+    "structs_are_laid_out_alike": {
+        "a_width": (HOST, "pub refusal: u32", "pub refusal: i64"),
+        "a_sign": (HOST, "pub refusal: u32", "pub refusal: i32"),
+        "fields_exchanged": (HOST, "    pub lower: i32,\n    pub upper: i32,\n", "    pub upper: i32,\n    pub lower: i32,\n"),
+        "fields_exchanged_in_the_header": (HEADER, "limits_lower;\n    int32_t limits_upper;", "limits_upper;\n    int32_t limits_lower;"),
+        "a_field_more": (HOST, "    pub second: i32,\n", "    pub second: i32,\n    pub third: i32,\n"),
+        "a_place_more": (HEADER, "#define TULPAVICE_MOST 2", "#define TULPAVICE_MOST 4"),
+        "not_as_c_has_it": (HOST, "#[repr(C)]\npub struct HostRead", "pub struct HostRead"),
+        "another_size": (LAYOUT, "SIZE(read, 40)", "SIZE(read, 36)"),
+        "another_place": (LAYOUT, "AT(lot, total, 16)", "AT(lot, total, 12)"),
+        "a_place_that_is_not_said": (LAYOUT, "AT(read, lot, 8);\n", ""),
+        "a_struct_that_is_not_there": (LAYOUT, "SIZE(read, 40);", "SIZE(read, 40);\nSIZE(row, 8);"),
+        "no_layout": (LAYOUT, TREE[LAYOUT], None),
     },
     "symbols_mean_the_librarys": {
         "a_declaration": (SPEC, "what? :", "abbrev pub length : ℕ → ℕ\nwhat? :"),
@@ -256,7 +339,7 @@ FAULTS = {
         "a_file_with_its_folder": (PROMISES, "toy/specs/Sum.antt", "toy/proofs/Sum.antt"),
         "a_quoted_file": (PROMISES, "`inner.rt`", "`outer.rt`"),
         "a_law_of_the_readmes": (README, "the law `law`", "the law `low`"),
-        "a_function_of_the_readmes": (README, "`Pair::first`", "`Pair::second`"),
+        "a_function_of_the_readmes": (README, "`Pair::first`", "`Pair::third`"),
         "a_folder_of_the_readmes": (README, "`crates/toy`", "`crates/boy`"),
         "a_link_of_the_readmes": (README, "(docs/PROMISES.md)", "(docs/PROMISE.md)"),
     },

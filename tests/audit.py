@@ -5,6 +5,7 @@ from pathlib import Path
 
 from edge import exports_are_declared, structs_are_laid_out_alike
 from edits import edited, every_edit, fell_elsewhere, kit_edits, not_a_fact, own_edits
+from house import house_is_drawn
 from texts import EDGE, NAME, antt_files, brought, declared, functions, plain_rattle, texts
 
 ROOTS = "Prim mathlib native lib mir borrow denote".split()
@@ -208,7 +209,8 @@ def named_things_are_there(root):
 
 
 RULES = [promises_are_made, entries_ask_nothing, entries_exist, public_functions_are_listed, promises_are_guarded, exports_are_declared,
-         structs_are_laid_out_alike, symbols_mean_the_librarys, imports_are_used, no_hole_is_left, edits_can_be_planted, edits_differ, edits_are_listed, named_things_are_there]
+         structs_are_laid_out_alike, symbols_mean_the_librarys, imports_are_used, no_hole_is_left, edits_can_be_planted, edits_differ, edits_are_listed, named_things_are_there,
+         house_is_drawn]
 
 
 def kit_edits_are_refused_for_a_fact(root):

@@ -4,6 +4,7 @@ import unittest
 from pathlib import Path
 
 import audit
+from house import drawing
 
 LIB = "crates/toy/src/lib.rt"
 INNER = "crates/toy/src/inner.rt"
@@ -17,11 +18,15 @@ PROMISES = "docs/PROMISES.md"
 README = "README.md"
 HEADER = "include/tulpavice.h"
 LAYOUT = "hosts/layout.h"
+CRATES = "crates.txt"
+HOUSE = "docs/house.svg"
 HOST = "crates/toy/src/host.rt"
 # what stands for the folder of the small tree, in a log
 HERE = "{root}/target/must-fail/toy/two_more/"
 
 TREE = {
+    CRATES: "# NAME: DEP DEP ..\nground:\ntoy: ground\n",
+    HOUSE: drawing("ground:\ntoy: ground\n"),
     LIB: '''// A toy: pub fn in_a_comment() {}
 ghost use mathlib.Core.Path.{_≡_};
 ghost use Prim.Native.Nat.{
@@ -342,6 +347,12 @@ FAULTS = {
         "a_function_of_the_readmes": (README, "`Pair::first`", "`Pair::third`"),
         "a_folder_of_the_readmes": (README, "`crates/toy`", "`crates/boy`"),
         "a_link_of_the_readmes": (README, "(docs/PROMISES.md)", "(docs/PROMISE.md)"),
+    },
+    "house_is_drawn": {
+        "no_drawing": (HOUSE, TREE[HOUSE], None),
+        "a_crate_more": (CRATES, "toy: ground\n", "toy: ground\nroof: toy\n"),
+        "a_crate_that_stands_on_nothing": (CRATES, "toy: ground", "toy:"),
+        "another_name": (HOUSE, ">toy<", ">boy<"),
     },
     "kit_edits_are_refused_for_a_fact": {
         "no_log": (LOG, TREE[LOG], None),

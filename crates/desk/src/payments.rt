@@ -59,7 +59,7 @@ fn pwl(evaluation: Evaluation) -> i64 {
     }
 }
 
-// Of the three evaluations of document 000's worked example, by our rules.
+// W and the pay of document 000's worked example, by document 01's PWLs.
 pub(crate) fn worked_example(vma: Evaluation, voids: Evaluation, density: Evaluation) {
     let w = PayRule::weighted(Hundredths(9751), Hundredths(9128), Hundredths(9256));
     number(b"W ", w.0);

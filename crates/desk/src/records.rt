@@ -1,5 +1,5 @@
-// The record of D5, written and read. What is written is shown as what is answered and the lent bytes after it, of which each was EE before; a
-// refusal is shown by its number.
+// The record of D5, written and read. A write is shown by its answer and then by all the lent bytes, each of which was EE before; a refusal is
+// shown by its number.
 use crate::show;
 use crate::show::count;
 use crate::show::words;
@@ -35,7 +35,7 @@ fn show_bytes(bytes: &[u8]) {
     }
 }
 
-// With room for three bytes more.
+// Writes a lot into 32 bytes, three more than the record of D5 has.
 fn written(lot: HeldLot) {
     let mut out = [0xEE; 32];
     match write(lot, &mut out) {

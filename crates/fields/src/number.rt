@@ -1,4 +1,4 @@
-// Big-endian numbers: one reader and one writer, which every number of more than one byte goes through.
+// Big-endian numbers: one reader and one writer for every number of more than one byte in a record and in readings that come as bytes.
 ghost use mathlib.Core.Path.{_≡_};
 ghost use mathlib.Core.List.{[], _∷_};
 ghost use Prim.Native.Nat.{_+_, _≤_};
@@ -37,7 +37,7 @@ pub fn signed(x: u32) -> i32
     }
 }
 
-// And back.
+// The way back: the 32 bits of a signed number, as an unsigned one.
 pub fn unsigned(z: i32) -> u32
     ensures { λ r. ⌜ r ≡ ofZ w32 z ⌝ }
 {
@@ -48,7 +48,7 @@ pub fn unsigned(z: i32) -> u32
     }
 }
 
-// The number that the four bytes from a place on spell. Inner: a record's reader passes places within its bytes.
+// The number that the four bytes from a place on spell. Inner: a record's reader and the walk pass places within the bytes.
 pub fn word(bytes: &[u8], at: usize) -> u32
     requires { ⌜ at + 4 ≤ length (now bytes) ⌝ }
     ensures { λ r. ⌜ r ≡ spelled 0 (part at 4 (now (bytes .entry))) ⌝ }

@@ -14,7 +14,7 @@ ghost use Rattle.rules.specs.Record.{four, fours, part};
 ghost use Rattle.rules.specs.Answers.{totals-said};
 ghost use Rattle.laws.specs.Totalled.{walk-says, Placed};
 
-// What is said of some readings, with their totals, and the readings in their places: of any use where none is out of range.
+// What a walk says of some readings, their totals or a refusal; and the readings in their places, to be used only where none is out of range.
 pub struct Walked {
     pub said: TotalsAnswer,
     pub readings: [Thousandths; MOST],
@@ -28,7 +28,7 @@ fn reading(bytes: &[u8], i: usize) -> i32
     signed(word(bytes, 4 * i))
 }
 
-// One pass over so many readings. Inner: a record's reader and the notebook's row ask for no more than a lot and the bytes hold.
+// One pass over the first n readings. Inner: a record's reader and the notebook's row ask for no more than a lot and the bytes hold.
 pub fn walk(bytes: &[u8], n: usize) -> Walked
     requires { ⌜ (n ≤ most) × (4 * n ≤ length (now bytes)) ⌝ }
     ensures { λ r. ⌜ totals-said (r .said) ≡ walk-says (fours n (now (bytes .entry))) ⌝ }

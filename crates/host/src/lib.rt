@@ -1,4 +1,4 @@
-// Answers as the plain numbers that a host in C is given, and its numbers as a limit and as a lot.
+// Answers as the plain numbers that a host in C is given; and limits and lots from the numbers that it gives.
 pub mod lot;
 
 use rules::DeviationAnswer;
@@ -27,10 +27,10 @@ ghost use Rattle.rules.specs.Notebook.{lent-limit};
 ghost use Rattle.rules.specs.Answers.{mean-said, deviation-said, evaluation-said, pay-said, mixture-said, write-said, row-said};
 ghost use Rattle.rules.specs.Host.{refusal-part, host-mean, host-deviation, host-percentages, verdict-number, host-payment, host-pair, host-mixture-limits, host-written, host-row};
 
-// The part with which every answer begins: of what is not refused,
+// The part with which every answer begins, where nothing is refused.
 pub const UNREFUSED: HostRefusal = HostRefusal { number: 0 };
 
-// and of what is.
+// The part with which every answer begins, where there is a refusal.
 pub fn refused(refusal: Refusal) -> HostRefusal
     ensures { λ r. ⌜ r ≡ refusal-part refusal ⌝ }
 {
@@ -38,7 +38,7 @@ pub fn refused(refusal: Refusal) -> HostRefusal
     HostRefusal { number: number }
 }
 
-// Presence 0 is absent, and the number is then not read; any other is present.
+// A limit given as a number and a presence: absent where the presence is 0, and the number is not read; present where it is any other.
 pub fn limit(number: i32, presence: u32) -> Limit
     ensures { λ r. ⌜ r ≡ lent-limit number presence ⌝ }
 {

@@ -1,4 +1,4 @@
-// A lot as a host in C holds it, and back.
+// A lot as a host in C holds it, turned into a lot in memory and back.
 use crate::UNREFUSED;
 use crate::limit;
 use crate::refused;
@@ -22,7 +22,7 @@ fn held_limit(given: HostLimit) -> Limit
     limit(given.number, given.presence)
 }
 
-// The lot in memory that a host's numbers are.
+// The lot in memory that a host's numbers stand for.
 pub fn held_lot(lot: HostLot) -> HeldLot
     ensures { λ r. ⌜ r ≡ held-lot lot ⌝ }
 {

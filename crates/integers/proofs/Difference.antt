@@ -12,7 +12,7 @@ use borrow.Author.Tests.{lt-ltb, le-ltb}
 infixl 6 _⊕_ _⊖_
 infixl 7 _⊗_
 infix 8 ⊝_
--- What z adds, and what it takes away.
+-- The two parts of z, of which one is 0: z = up z − down z.
 abbrev pub up : ℤ → ℕ
 up (pos n) = n
 up (negsuc n) = 0
@@ -25,14 +25,14 @@ down (negsuc n) = suc n
 pub record Diff (z : ℤ) (p q : ℕ) : Type 0 where
   pub rep : up z + q ≡ p + down z
 
--- An integer as it is, and a natural number.
+-- The certificates to begin with: of any integer, by its two parts, and of a natural number.
 pub var : (z : ℤ) → Diff z (up z) (down z)
 var z = omega arith
 
 pub nat : (n : ℕ) → Diff (pos n) n 0
 nat n = omega arith
 
--- The operations on integers, each with what it adds and takes away.
+-- Certificates of sums, negations, differences and products; the parts of each result come first.
 parts-neg : (z : ℤ) → (up (negℤ z) ≡ down z) × (down (negℤ z) ≡ up z)
 parts-neg (pos zero) = omega arith
 parts-neg (pos (suc n)) = omega arith
@@ -99,7 +99,7 @@ eq-read {x} {y} h = omega (arith, ap up h, ap down h)
 -- `omega`'s rules, with those that read an equation or an order of two integers that is in scope.
 pub ruleset arithℤ = (arith, eq-read, le-read, lt-read)
 
--- Two integers with certificates are equal, or in order, exactly where omega says so of the four natural numbers.
+-- Where x is p − q and y is r − s: x = y, x ≤ y and x < y say the same as p + s = r + q, p + s ≤ r + q and p + s < r + q.
 module _ {x y : ℤ} {p q r s : ℕ} (d : Diff x p q) (e : Diff y r s) where
   pub diff-eq : p + s ≡ r + q → x ≡ y
   diff-eq h = same x y (omega arith)

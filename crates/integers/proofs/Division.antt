@@ -1,4 +1,4 @@
--- The whole part of a quotient, cut toward zero, keeps the order, and its magnitude is not above that of what is divided.
+-- Division by a natural number, cut toward zero, keeps the order, and the quotient's magnitude is at most that of the number divided.
 use Prim.Native.Nat.{ℕ, zero, suc, _/_, _≤_, zero-le, suc-le-suc}
 use native.Mathlib.Nat.{mul-le-mul-right, div-zero, div-le-self}
 use native.Mathlib.Omega.{arith}
@@ -9,7 +9,7 @@ use Rattle.integers.proofs.Difference.{nat, diff-le, arithℤ, ⊝_}
 use Rattle.integers.proofs.Order.{neg-flips, pos-mono}
 use Rattle.integers.proofs.Magnitude.{natAbs-neg}
 
--- Of natural numbers; a quotient by 0 is 0.
+-- Division of natural numbers keeps the order; a quotient by 0 is 0.
 quotients : (d : ℕ) {a b : ℕ} → a ≤ b → a / d ≤ b / d
 quotients zero {a} h = rw (div-zero a) zero-le
 quotients (suc d) {a} {b} h = div-mono a (suc d) b (suc d) (suc-le-suc zero-le) (suc-le-suc zero-le) (mul-le-mul-right (suc d) h)

@@ -13,12 +13,12 @@ use mir.Val.{hbits, SFits}
 use Rattle.integers.proofs.Difference.{Diff, up, down, var, nat, diff-eq, eq-diff, diff-le, le-diff, arithℤ, ⊝_, _⊕_, _⊖_}
 use Rattle.integers.proofs.Order.{neg-flips}
 
--- A magnitude by the parts of its integer, one of which is zero.
+-- |z| is the sum of the two parts of z, one of which is 0.
 pub natAbs-parts : (z : ℤ) → natAbs z ≡ up z + down z
 natAbs-parts (pos n) = omega arith
 natAbs-parts (negsuc n) = omega arith
 
--- The magnitude of p − q is at most b where neither is more than b above the other, and back.
+-- |p − q| ≤ b exactly when neither of p and q is more than b above the other.
 pub diff-within : {z : ℤ} {p q b : ℕ} → Diff z p q → (p ≤ q + b) × (q ≤ p + b) → natAbs z ≤ b
 diff-within {z = pos n} d h = omega arith
 diff-within {z = negsuc n} d h = omega arith
@@ -26,7 +26,7 @@ diff-within {z = negsuc n} d h = omega arith
 pub within-diff : {z : ℤ} {p q b : ℕ} → Diff z p q → natAbs z ≤ b → (p ≤ q + b) × (q ≤ p + b)
 within-diff {z} d h = omega (arith, natAbs-parts z)
 
--- A magnitude of at most b says -b ≤ z ≤ b.
+-- |z| ≤ b exactly when −b ≤ z ≤ b.
 pub within : {b : ℕ} {z : ℤ} → negℤ (pos b) ≤ℤ z → z ≤ℤ pos b → natAbs z ≤ b
 within {b} {z} h k = diff-within (var z) (omega (arith, le-diff (⊝ nat b) (var z) h, le-diff (var z) (nat b) k))
 
@@ -54,13 +54,13 @@ natAbs-mul (pos a) (negsuc b) = natAbs-neg (pos (a * suc b))
 natAbs-mul (negsuc a) (pos b) = natAbs-neg (pos (suc a * b))
 natAbs-mul (negsuc a) (negsuc b) = refl
 
--- Of what is left of w when a number that is not negative is taken away: it is not above w, if it is not negative.
-pub natAbs-left : (v w q : ℤ) → pos 0 ≤ℤ v → pos 0 ≤ℤ q → v ≡ w -ℤ q → natAbs v ≤ natAbs w
-natAbs-left (pos a) w (pos b) h k e = omega (arith, natAbs-parts w, eq-diff (nat a) (var w ⊖ nat b) e)
-natAbs-left (pos a) w (negsuc b) h k e = absurd (k .le)
-natAbs-left (negsuc a) w q h k e = absurd (h .le)
+-- If v = w − q, and v and q are 0 or more, then |v| ≤ |w|.
+pub natAbs-less-taken : (v w q : ℤ) → pos 0 ≤ℤ v → pos 0 ≤ℤ q → v ≡ w -ℤ q → natAbs v ≤ natAbs w
+natAbs-less-taken (pos a) w (pos b) h k e = omega (arith, natAbs-parts w, eq-diff (nat a) (var w ⊖ nat b) e)
+natAbs-less-taken (pos a) w (negsuc b) h k e = absurd (k .le)
+natAbs-less-taken (negsuc a) w q h k e = absurd (h .le)
 
--- Magnitudes keep the order of what is not negative, and turn that of what is not positive round.
+-- If 0 ≤ x ≤ y, then |x| ≤ |y|; if x ≤ y ≤ 0, then |y| ≤ |x|.
 pub natAbs-mono : {x y : ℤ} → pos 0 ≤ℤ x → x ≤ℤ y → natAbs x ≤ natAbs y
 natAbs-mono {x = pos a} {y = pos b} h k = omega arithℤ
 natAbs-mono {x = pos a} {y = negsuc b} h k = absurd (k .le)
@@ -73,12 +73,12 @@ natAbs-falls {x} {y} h k = simp (natAbs-neg x, natAbs-neg y) at (natAbs-mono (ne
 pub natAbs-pos : {z : ℤ} → pos 0 ≤ℤ z → pos (natAbs z) ≡ z
 natAbs-pos {z} h = pos-natAbs z (yes-nonNeg h)
 
--- An integer fits a signed width where its magnitude is below half the width's power.
+-- An integer fits a signed width of b bits if its magnitude is below 2^(b − 1).
 pub fits-of : (w : Width) {z : ℤ} → natAbs z < 2 ^ hbits w → SFits w z
 fits-of w {z = pos n} h = record { sfits = h }
 fits-of w {z = negsuc n} h = record { sfits = le-of-lt h }
 
--- −1 less a number that is not negative is below zero by one more; −1 less a negative number is not negative, and fits where that does.
+-- For n of 0 or more, −1 − n is −(n + 1). For z below 0, −1 − z is 0 or more, and it fits every width that z fits.
 pub minus-one-less : (n : ℕ) → negsuc 0 -ℤ pos n ≡ negsuc n
 minus-one-less n = diff-eq (var (negsuc 0) ⊖ nat n) (var (negsuc n)) (omega arith)
 

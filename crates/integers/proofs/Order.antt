@@ -54,7 +54,7 @@ neg-flips {x} {y} h = diff-le (⊝ var y) (⊝ var x) (omega arithℤ)
 pub *ℤ-mono-l : (n : ℕ) {x y : ℤ} → x ≤ℤ y → (pos n *ℤ x) ≤ℤ (pos n *ℤ y)
 *ℤ-mono-l n {x} {y} h = diff-le (nat n ⊗ var x) (nat n ⊗ var y) (omega (arith, mul-le-mul-left n (le-read h)))
 
--- A factor above 0 can be taken off an order.
+-- A common factor above 0 cancels from ≤, < and =. (From x·n < y·n it follows that n is above 0.)
 pub *ℤ-cancel-≤ : (n : ℕ) {x y : ℤ} → 1 ≤ n → (x *ℤ pos n) ≤ℤ (y *ℤ pos n) → x ≤ℤ y
 *ℤ-cancel-≤ n {x} {y} some h =
     let low = le-diff (var x ⊗ nat n) (var y ⊗ nat n) h in
@@ -70,9 +70,6 @@ pub *ℤ-cancel : (n : ℕ) {x y : ℤ} → 1 ≤ n → x *ℤ pos n ≡ y *ℤ 
 
 pub pos-mono : {m n : ℕ} → m ≤ n → pos m ≤ℤ pos n
 pos-mono {m} {n} h = diff-le (nat m) (nat n) (omega arith)
-
-pub pos-mono-back : {m n : ℕ} → pos m ≤ℤ pos n → m ≤ n
-pos-mono-back h = omega arithℤ
 
 -- What a test of order answers where the order is known, and back.
 pub le-leZ : {x y : ℤ} → x ≤ℤ y → leZ x y ≡ true
@@ -99,7 +96,7 @@ ltZ-true x y e = ltZ-yes (subst T (sym e) tt)
 pub ltZ-false : (x y : ℤ) → ltZ x y ≡ false → y ≤ℤ x
 ltZ-false x y e = ltZ-no (subst (λ (t : Bool). T (not t)) (sym e) tt)
 
--- Two tests answer alike where the differences of their numbers are equal.
+-- If x − y = u − v, then a test of x and y answers as the same test of u and v.
 module _ {x y u v : ℤ} {p q r s p′ q′ r′ s′ : ℕ} (dx : Diff x p q) (dy : Diff y r s) (du : Diff u p′ q′) (dv : Diff v r′ s′)
     (e : p + s + (r′ + q′) ≡ p′ + s′ + (r + q)) where
   pub leZ-alike : leZ x y ≡ leZ u v
@@ -112,7 +109,7 @@ module _ {x y u v : ℤ} {p q r s p′ q′ r′ s′ : ℕ} (dx : Diff x p q) (
       ⊎-elim (λ h. le-ltZ (diff-le dy dx (omega (arith, le-diff dv du h))) ∙ sym (le-ltZ h))
       (λ k. lt-ltZ (diff-lt dx dy (omega (arith, lt-diff du dv k))) ∙ sym (lt-ltZ k)) (≤ℤ-total v u)
 
--- Negation turns a test round, and a shift of both numbers leaves it.
+-- Negating both numbers turns a test round, and adding one number to both leaves it as it is.
 pub leZ-neg : (x y : ℤ) → leZ (negℤ x) (negℤ y) ≡ leZ y x
 leZ-neg x y = leZ-alike (⊝ var x) (⊝ var y) (var y) (var x) (omega arith)
 

@@ -27,7 +27,7 @@ neg-*ℤ-neg x y = diff-eq (⊝ var x ⊗ ⊝ var y) (var x ⊗ var y) (omega ar
 pub -ℤ-shift : (x y d : ℤ) → (x +ℤ d) -ℤ (y +ℤ d) ≡ x -ℤ y
 -ℤ-shift x y d = diff-eq ((var x ⊕ var d) ⊖ (var y ⊕ var d)) (var x ⊖ var y) (omega arith)
 
--- A difference negated, and the difference of two negated numbers: its ends change places.
+-- Both −(x − y) and (−x) − (−y) are y − x.
 pub neg--ℤ : (x y : ℤ) → negℤ (x -ℤ y) ≡ y -ℤ x
 neg--ℤ x y = diff-eq (⊝ (var x ⊖ var y)) (var y ⊖ var x) (omega arith)
 

@@ -1,8 +1,8 @@
 -- Squares of integers, and of natural numbers.
 use mathlib.Core.Path.{_≡_, refl, ap}
 use mathlib.Core.Logic.{_↔_, ⊎-elim}
-use Prim.Native.Nat.{ℕ, zero, suc, _*_, _≤_, _<_, zero-le}
-use native.Mathlib.Nat.{mul-le-mul, lt-of-not-le}
+use Prim.Native.Nat.{ℕ, zero, suc, _*_, _≤_, zero-le}
+use native.Mathlib.Nat.{mul-le-mul}
 use native.Mathlib.Omega.{arith}
 use lib.IntN.{ℤ, pos, negsuc, negℤ, natAbs, _+ℤ_, _-ℤ_, _*ℤ_}
 use lib.Signed.{_≤ℤ_, _<ℤ_, clashℤ}
@@ -41,10 +41,6 @@ pub square-diff : (x y : ℤ) → square (x -ℤ y) ≡ (square x +ℤ square y)
 unfolding square
 square-diff x y = diff-eq ((var x ⊖ var y) ⊗ (var x ⊖ var y)) (var x ⊗ var x ⊕ var y ⊗ var y ⊖ nat 2 ⊗ (var x ⊗ var y)) (omega arith)
 
--- Of two natural numbers the one with the smaller square is smaller. (That squares keep the order is the kit's `mul-le-mul h h`.)
-pub root-unique : (a b : ℕ) → a * a < b * b → a < b
-root-unique a b h = lt-of-not-le (λ k. omega (arith, mul-le-mul k k))
-
 -- ---- with the sign
 
 -- z·|z|
@@ -73,7 +69,7 @@ signed-strict {x = negsuc a} {y = negsuc b} h =
     let more : suc (suc b) ≤ suc a = omega arithℤ in
     diff-lt (⊝ nat (suc a * suc a)) (⊝ nat (suc b * suc b)) (omega (arith, mul-le-mul more more))
 
--- Squares with their signs are in the order of their numbers.
+-- x ≤ y exactly when x·|x| ≤ y·|y|, and x < y exactly when x·|x| < y·|y|.
 pub signed-≤ : (x y : ℤ) → (x ≤ℤ y) ↔ (signed x ≤ℤ signed y)
 signed-≤ x y = (signed-mono, λ h. ⊎-elim (λ k. k) (λ k. absurd (clashℤ (signed-strict k) h)) (≤ℤ-total x y))
 

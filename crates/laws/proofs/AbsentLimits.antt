@@ -1,4 +1,4 @@
--- A number held for an absent limit is no part of the lot: whatever bytes stand in its place, the lot is the same. (The record is refused.)
+-- The bytes of an absent limit are no part of the lot: whatever stands there, the lot is the same. (The record is refused unless they are zero.)
 use mathlib.Core.Path.{_≡_, sym, ap₂, _∙_}
 use mathlib.Core.Bool.{false}
 use mathlib.Core.List.{List, [], _∷_, _++_}

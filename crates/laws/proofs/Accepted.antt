@@ -28,7 +28,7 @@ use Rattle.laws.proofs.Ruled.{none-met, ruled-answers, ruled-unrefused,
 use Rattle.laws.proofs.Tests.{neither}
 use Rattle.laws.proofs.Bounds.{totals-bounded}
 
--- A count that is not refused is 2 to the most that a lot can hold.
+-- A count that is not refused is from 2 to the most that a lot can hold.
 pub count-allowed : (n : ℕ) → count-case n .applies ≡ false → (2 ≤ n) × (n ≤ most)
 count-allowed n e =
     let h : (leb 2 n ≡ true) × (leb n most ≡ true) = and-eq-true-iff (leb 2 n) (leb n most) .0 (not-false (allowed n) e) in
@@ -39,7 +39,7 @@ unfolding readings-meet
 readings-accepted xs e =
     let m = none-met (count-case (length xs)) (range-case Absent Absent xs ∷ []) e in
     let n = count-allowed (length xs) (m .0) in
-    record { least = n .0; few = n .1; near = none-met (range-case Absent Absent xs) [] (m .1) .0 }
+    record { least = n .0; few = n .1; all-in-range = none-met (range-case Absent Absent xs) [] (m .1) .0 }
 
 -- Readings whose totals are answered are not refused, and the totals are theirs and in bounds.
 pub record ReadingsTotalled (xs : List ℤ) (a : Totals) : Type 0 where
@@ -58,14 +58,14 @@ readings-totalled xs e h =
 pub record LotAccepted (lot : Lot) : Type 0 where
   pub least : 2 ≤ lot .n
   pub few : lot .n ≤ most
-  pub upper-near : out-of-range (lot .upper) ≡ false
-  pub lower-near : out-of-range (lot .lower) ≡ false
-  pub near : any-out (lot .readings) ≡ false
+  pub upper-in-range : out-of-range (lot .upper) ≡ false
+  pub lower-in-range : out-of-range (lot .lower) ≡ false
+  pub all-in-range : any-out (lot .readings) ≡ false
   pub uncrossed : crossed (lot .upper) (lot .lower) ≡ false
 
--- Where it meets nothing after its count, none of its readings is out of range.
-pub readings-near : (lot : Lot) → checked (lot-meets lot) ≡ answers tt → any-out (lot .readings) ≡ false
-readings-near lot e =
+-- Where none of refusals 5 to 7 applies to a lot, none of its readings is out of range.
+pub readings-in-range : (lot : Lot) → checked (lot-meets lot) ≡ answers tt → any-out (lot .readings) ≡ false
+readings-in-range lot e =
     let range = none-met (range-case (lot .upper) (lot .lower) (lot .readings)) (limits-meet (lot .upper) (lot .lower)) e in
     neither (out-of-range (lot .upper) || out-of-range (lot .lower)) (any-out (lot .readings)) (range .0) .1
 
@@ -77,14 +77,14 @@ lot-accepted lot e =
     let range = none-met (range-case upper lower (lot .readings)) (limits-meet upper lower) (count .1) in
     let limited = none-met (unlimited-case upper lower) (crossed-case upper lower ∷ []) (range .1) in
     let n = count-allowed (lot .n) (count .0) in
-    let near = neither (out-of-range upper || out-of-range lower) (any-out (lot .readings)) (range .0) in
-    let limits = neither (out-of-range upper) (out-of-range lower) (near .0) in
+    let all-in-range = neither (out-of-range upper || out-of-range lower) (any-out (lot .readings)) (range .0) in
+    let limits = neither (out-of-range upper) (out-of-range lower) (all-in-range .0) in
     record {
       least = n .0;
       few = n .1;
-      upper-near = limits .0;
-      lower-near = limits .1;
-      near = readings-near lot (count .1);
+      upper-in-range = limits .0;
+      lower-in-range = limits .1;
+      all-in-range = readings-in-range lot (count .1);
       uncrossed = none-met (crossed-case upper lower) [] (limited .1) .0;
     }
 
@@ -108,17 +108,17 @@ lot-totalled lot counted e h =
       same = r .1;
       accepted = ok;
       bounded =
-          totals-bounded {xs = lot .readings} (record { least = rw size (ok .least); few = rw size (ok .few); near = ok .near })
+          totals-bounded {xs = lot .readings} (record { least = rw size (ok .least); few = rw size (ok .few); all-in-range = ok .all-in-range })
           (sym (r .1) ∙ ap (λ (m : ℕ). totals m (lot .readings)) (sym size));
     }
 
--- of a lent list with two limits
+-- The readings of an accepted lot that is a lent list with two limits are accepted.
 pub lent-readings : {upper lower : Limit} {xs : List ℤ} → LotAccepted (lot-of upper lower xs) → Accepted xs
-lent-readings h = record { least = h .least; few = h .few; near = h .near }
+lent-readings h = record { least = h .least; few = h .few; all-in-range = h .all-in-range }
 
 -- ---- its evaluation
 
--- It is by the totals of the lot where these are answered,
+-- Where a lot's totals are answered, its evaluation is worked out from them,
 pub totalled-is-evaluated :
     (rule : Rule) {lot : Lot} {a : Totals} → LotTotalled lot a →
     answers (percentages-of rule (entries (table-106-1 (a .n))) a (lot .upper) (lot .lower)) ≡ evaluated rule (column-for lot) lot
@@ -127,7 +127,7 @@ totalled-is-evaluated rule {lot} h =
     ap (λ (b : Totals). answers (percentages-of rule (entries (table-106-1 (b .n))) b (lot .upper) (lot .lower))) (sym (h .same))
     ∙ sym (ruled-unrefused _ _ (h .unrefused))
 
--- and else is refused as they are.
+-- and where they are refused, its evaluation is the same refusal.
 pub untotalled-is-refused : (rule : Rule) (found : Found) (lot : Lot) {t : TotalsAnswer} {r : Refusal} → totals-said t ≡ totalled counted-meets lot → t ≡ TotalsAnswer.Refused r → evaluated rule found lot ≡ refused r
 unfolding evaluated evaluation-meets totalled
 untotalled-is-refused rule found lot e h = totals-refused (counted-meets lot) (lot-totals lot) e _ h

@@ -1,5 +1,5 @@
--- Each answer is read as the paper's refusal or values in one way only, so a promise of what is said determines the answer; and a refusal is
--- known by its number.
+-- Two answers that say the same, the paper's refusal or values, are the same answer; so a promise of what is said determines the answer. Two
+-- refusals of one number are the same refusal.
 use mathlib.Core.Path.{_≡_, refl, sym, ap, _∙_}
 use mathlib.Core.List.{[], _∷_}
 use Prim.Native.Nat.{ℕ, _-_}
@@ -19,11 +19,11 @@ use Rattle.rules.specs.Said.{Said, refused, answers}
 use Rattle.rules.specs.Refusals.{number-of}
 use Rattle.rules.specs.Answers.{totals-said, mean-said, deviation-said, evaluation-said, pay-said, mixture-said, outcome-said, ReadSaid, read-said, write-said, row-said}
 
--- Two that are read alike are one.
+-- If f x = f y, then x = y.
 abbrev pub Injective : {A B : Type 0} → (A → B) → Type 0
 Injective {A} f = (x y : A) → f x ≡ f y → x ≡ y
 
--- what can be read back is read in one way only
+-- A function that can be undone is injective.
 read-back : {A B : Type 0} (f : A → B) (g : B → A) → ((x : A) → g (f x) ≡ x) → Injective f
 read-back f g back x y e = sym (back x) ∙ ap g e ∙ back y
 
@@ -46,7 +46,7 @@ refusal-back Number = refl
 pub number-injective : Injective number-of
 number-injective = read-back number-of refusal refusal-back
 
--- An answer that is one of two, values or a refusal, is read back by its two cases.
+-- What is said, read back as an answer: one case for values, one for a refusal.
 abbrev read : {A X : Type 0} → (A → X) → (Refusal → X) → Said A → X
 read value other (refused r) = other r
 read value other (answers a) = value a
@@ -96,7 +96,7 @@ outcome-injective =
     read-back outcome-said (read (λ _. Outcome.Answers) Outcome.Refused)
     (elim [ Outcome.Answers ↦ refl | Outcome.Refused r ↦ refl ])
 
--- and the lot that was read counts as it is
+-- A read says its lot too, just as it stands in the answer.
 pub read-injective : Injective read-said
 read-injective x y e =
     λ i. record { said = outcome-injective (x .said) (y .said) (ap (λ (r : ReadSaid). r .said) e) i; lot = e i .lot }

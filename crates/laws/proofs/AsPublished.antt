@@ -1,4 +1,4 @@
--- Demand 2 over the definitions: whatever is answered is what documents 01 and 004 say of those readings and limits, by the column that is found.
+-- Whatever the definitions answer is what documents 01 and 004 say of those readings and limits, by the column that is found (demand 2).
 use mathlib.Core.Path.{_≡_, refl, sym, ap, _∙_, subst}
 use mathlib.Core.List.{List}
 use mathlib.Core.Logic.{⊎-elim}
@@ -88,7 +88,7 @@ module _ (column : List ℕ) (xs : List ℤ) (some : 1 ≤ length xs) where
   lower-is-published (At l) =
       side-is-published column xs _ (lower-distance (totals (length xs) xs) (l .0)) (lower-beyond-is xs some (l .0))
 
--- Of a lot that has as many readings as it says.
+-- What is answered for a lot that has as many readings as it says is as published.
 pub evaluated-as-published :
     (found : Found) (lot : Lot) (p : Percentages) → Counted lot →
     evaluated nearest found lot ≡ answers p → AsPublished (entries found) (lot .upper) (lot .lower) (lot .readings) p

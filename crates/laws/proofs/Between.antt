@@ -1,5 +1,5 @@
--- A number is from 0 to the greatest that is taken exactly when it is not outside; what bounds such a number bounds its magnitude; and one
--- from 0 to 3 is one of four.
+-- A number is not outside exactly when it is from 0 to the greatest that is taken. Where 0 ≤ z, an upper bound of z bounds its magnitude. A number
+-- from 0 to 3 is 0, 1, 2 or 3.
 use mathlib.Core.Path.{_≡_, refl}
 use mathlib.Core.Bool.{false}
 use Prim.Native.Nat.{ℕ, zero, suc, _≤_}
@@ -32,7 +32,7 @@ one-of-four {z = pos (suc (suc (suc zero)))} h at-0 at-1 at-2 at-3 = at-3 refl
 one-of-four {z = pos (suc (suc (suc (suc n))))} h at-0 at-1 at-2 at-3 = absurd (omega arithℤ)
 one-of-four {z = negsuc n} h at-0 at-1 at-2 at-3 = absurd (h .low .le)
 
--- What is left to the greatest number, of one from 0 on, is such a number too.
+-- If 0 ≤ z ≤ g, then 0 ≤ g − z ≤ g.
 pub rest-between : {g : ℕ} {z : ℤ} → Between (pos 0) (pos g) z → Between (pos 0) (pos g) (pos g -ℤ z)
 rest-between {g} {z} h =
     record {

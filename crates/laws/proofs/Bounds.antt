@@ -10,7 +10,7 @@ use lib.IntN.{ℤ, pos, negℤ, natAbs, _*ℤ_}
 use lib.ListN.{length, drop, getD}
 use lib.Signed.{leZ}
 use Rattle.integers.proofs.Order.{leZ-true}
-use Rattle.integers.proofs.Magnitude.{within, natAbs-add, natAbs-mul, natAbs-left}
+use Rattle.integers.proofs.Magnitude.{within, natAbs-add, natAbs-mul, natAbs-less-taken}
 use Rattle.integers.proofs.Square.{square, square-nonneg}
 use Rattle.rules.specs.declared.Totals.{Totals}
 use Rattle.rules.specs.declared.Thousandths.{Thousandths}
@@ -30,18 +30,18 @@ in-range-bound z e =
     let h : (leZ (negℤ (pos 500000)) z ≡ true) × (leZ z (pos 500000) ≡ true) = and-eq-true-iff (leZ (negℤ (pos 500000)) z) (leZ z (pos 500000)) .0 e in
     within {b = 500000} {z = z} (leZ-true _ _ (h .0)) (leZ-true _ _ (h .1))
 
--- The two limits of a pair of which none is out of range.
+-- Where a pair is not out of range, neither its upper nor its lower limit is.
 pub pair-parts : (p : Pair) → pair-out p ≡ false → (not (in-range (p .upper)) ≡ false) × (not (in-range (p .lower)) ≡ false)
 pair-parts p = neither (not (in-range (p .upper))) (not (in-range (p .lower)))
 
--- How far a pair goes down and up from its number.
-abbrev pub below : (ℤ → Pair) → ℕ
-below pair = natAbs (pair (pos 0) .lower)
+-- How far a pair's lower limit lies below the minimum or target, and its upper limit above it.
+abbrev pub offset-below : (ℤ → Pair) → ℕ
+offset-below pair = natAbs (pair (pos 0) .lower)
 
-abbrev pub above : (ℤ → Pair) → ℕ
-above pair = natAbs (pair (pos 0) .upper)
+abbrev pub offset-above : (ℤ → Pair) → ℕ
+offset-above pair = natAbs (pair (pos 0) .upper)
 
--- The first of some readings in range, and the others.
+-- Where no reading is out of range, the first is in range, and so are the others.
 module _ (x : ℤ) (xs : List ℤ) (e : any-out (x ∷ xs) ≡ false) where
   parts : (not (in-range x) ≡ false) × (any-out xs ≡ false)
   unfolding any-out
@@ -78,8 +78,8 @@ totals-bounded {xs} h e =
     (record {
       least = h .least;
       few = h .few;
-      sum = sum-bound xs (h .near);
-      squares = squares-bound xs (h .near);
+      sum = sum-bound xs (h .all-in-range);
+      squares = squares-bound xs (h .all-in-range);
       spread-not-negative = spread-never-negative xs;
     })
 
@@ -88,7 +88,7 @@ total-bound h = omega (arith, h .few, h .sum)
 
 -- ---- V
 
--- The products that V is the difference of, and V itself, which is not above the first.
+-- Bounds of n·Z, of T² and of their difference V, which is not above n·Z.
 pub record SpreadParts (a : Totals) : Type 0 where
   pub product : natAbs (pos (a .n) *ℤ a .z) ≤ most * (most * 250000000000)
   pub square : natAbs (a .t *ℤ a .t) ≤ most * 500000 * (most * 500000)
@@ -103,7 +103,7 @@ spread-parts {a} h =
     record {
       product = p;
       square = omega (arith, natAbs-mul (a .t) (a .t), mul-le-mul t t);
-      spread = le-trans (natAbs-left (spread a) (pos (a .n) *ℤ a .z) (a .t *ℤ a .t) (h .spread-not-negative) (square-nonneg (a .t)) refl) p;
+      spread = le-trans (natAbs-less-taken (spread a) (pos (a .n) *ℤ a .z) (a .t *ℤ a .t) (h .spread-not-negative) (square-nonneg (a .t)) refl) p;
     }
 
 pub spread-in-bounds : {a : Totals} {v : ℕ} → Bounded a → pos v ≡ spread a → SpreadInBounds (a .n) v

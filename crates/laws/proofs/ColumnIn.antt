@@ -1,4 +1,4 @@
--- A column in bytes: where its entries stand, and that those of Table 106-1 are such.
+-- A column in bytes: where its entries stand; and the columns of Table 106-1 in bytes are such columns.
 use mathlib.Core.Path.{_≡_, refl, ap, _∙_, subst⁻¹}
 use mathlib.Core.List.{List, [], _∷_}
 use Prim.Native.Nat.{ℕ, zero, suc, _+_, _*_, _≤_, _<_}
@@ -26,6 +26,6 @@ pub column-entry : (bs : List ℕ) (k : ℕ) → length bs ≡ 108 → k ≤ las
 unfolding column-in
 column-entry bs k size h = twos-at (suc last-row) bs k (omega arith) ∙ ap (spelled 0) (part-two bs (2 * k) (omega arith))
 
--- What is found in Table 106-1 for a count, in bytes.
+-- 108 bytes that hold Table 106-1's column for a count of 2 to 10 are a column in bytes.
 pub table-106-1-column-in : (bs : List ℕ) (n : ℕ) → 2 ≤ n → n ≤ 10 → length bs ≡ 108 → column-in bs ≡ entries (table-106-1 n) → ColumnIn bs
 table-106-1-column-in bs n low high size e = record { size = size; shape = subst⁻¹ Column e (table-106-1-column n low high) }

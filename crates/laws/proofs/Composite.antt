@@ -1,4 +1,4 @@
--- The factor, W and the composite lie between those of PWLs of 0 and of 100 percent.
+-- For PWLs from 0 to 100 percent, the factor, W and the composite lie between their values at 0 and at 100 percent.
 use lib.IntN.{ℤ, pos}
 use Rattle.rules.specs.Pay.{factor, weighted, composite}
 use Rattle.laws.specs.Between.{Between}

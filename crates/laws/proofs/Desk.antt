@@ -15,10 +15,10 @@ use Rattle.rules.specs.Meets.{readings-meet, evaluation-meets}
 use Rattle.rules.specs.Entries.{evaluated, evaluation-says, deviation-says, percentages-of}
 use Rattle.laws.specs.Every.{Every, done, _then_}
 use Rattle.laws.specs.Desk.{Holds, examples}
-use Rattle.laws.proofs.Deviation.{determined}
+use Rattle.laws.proofs.Deviation.{only-deviation-meets}
 
 found : (n v : ℕ) {s : ℕ} → 2 ≤ n → T (is-deviation n (pos v) s) → _≡_ {A = Said Thousandths} (answers (thousandths (pos (deviation n (pos v))))) (answers (thousandths (pos s)))
-found n v {s} low t = ap (λ (m : ℕ). answers (thousandths (pos m))) (determined n v s low t)
+found n v {s} low t = ap (λ (m : ℕ). answers (thousandths (pos m))) (only-deviation-meets n v s low t)
 
 pub desk : Every Holds examples
 unfolding ruled rows table-106-1 sum squares spread upper-distance lower-distance index-squared midpoint-squared admits largest nearest side upper-side lower-side any-out readings-meet evaluation-meets evaluated evaluation-says deviation-says percentages-of

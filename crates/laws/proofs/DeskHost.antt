@@ -85,7 +85,7 @@ pub refused-read-is-nothing : (bs : List ℕ) (r : Refusal) → read-says bs ≡
 unfolding host-lot held
 refused-read-is-nothing bs r e = ap (λ (said : Said Lot). host-read (beside said)) e
 
--- Of every other answer: one that is refused, and one that is not.
+-- Each of the other answers, once refused and once with values.
 pub mean-is-given :
     (host-mean (refused Count) ≡ record { refusal = numbered 4; total = pos 0; count = 0 }) ×
     (host-mean (answers (record { total = thousandths (pos 41600); count = 10 })) ≡ record { refusal = numbered 0; total = pos 41600; count = 10 })

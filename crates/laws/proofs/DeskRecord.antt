@@ -1,4 +1,4 @@
--- Records by computation: that of D5 as document 01 prints it, one with negative numbers, and an example of each refusal by its number.
+-- Records by computation: that of D5 as document 01 prints it, one with negative numbers, and an example of each of refusals 1 to 8.
 use mathlib.Core.Path.{_≡_, refl}
 use mathlib.Core.List.{List, [], _∷_, _++_}
 use Prim.Native.Nat.{ℕ}

@@ -37,11 +37,11 @@ deviation-determined xs r q e f = deviation-injective r q (e ∙ sym f)
 pub evaluation-determined : (lot : Lot) (r q : Evaluation) → evaluation-said r ≡ evaluation-says lot → evaluation-said q ≡ evaluation-says lot → r ≡ q
 evaluation-determined lot r q e f = evaluation-injective r q (e ∙ sym f)
 
--- and of a lot's record, the lot that is left in memory with it
+-- A read's promise determines the lot that is left in memory too,
 pub read-determined : (bs : List ℕ) (r q : ReadAnswer) → read-said r ≡ read-leaves bs → read-said q ≡ read-leaves bs → r ≡ q
 read-determined bs r q e f = read-injective r q (e ∙ sym f)
 
--- and every byte of the slice that is lent
+-- and a write's promise every byte of the lent slice.
 pub write-determined :
     (lot : Lot) (out : List ℕ) (r q : WriteAnswer) (after other : List ℕ) →
     (write-said r ≡ write-says lot out) × (after ≡ after-write lot out) → (write-said q ≡ write-says lot out) × (other ≡ after-write lot out) →

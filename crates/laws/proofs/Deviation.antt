@@ -14,19 +14,19 @@ use Rattle.rules.specs.Deviation.{before-midpoint-above, from-midpoint-below, i
 use Rattle.laws.specs.Bounds.{SpreadInBounds}
 use Rattle.laws.proofs.Search.{first-at-most, first-passes, none-before}
 
--- n·(n−1) times the square of an odd number that is not larger is not larger.
+-- If a ≤ b, then a²·n·(n−1) ≤ b²·n·(n−1).
 grows : (n : ℕ) {a b : ℕ} → a ≤ b → a * a * n * (n - 1) ≤ b * b * n * (n - 1)
 grows n h = mul-le-mul (mul-le-mul (mul-le-mul h h) (le-refl n)) (le-refl (n - 1))
 
 -- The two inequalities, as orders.
-pub above : (n v s : ℕ) → T (is-deviation n (pos v) s) → 4 * v < (2 * s + 1) * (2 * s + 1) * n * (n - 1)
-above n v s t = ltb→lt _ _ (and-l (before-midpoint-above n (pos v) s) (from-midpoint-below n (pos v) s) t)
+pub is-before-midpoint-above : (n v s : ℕ) → T (is-deviation n (pos v) s) → 4 * v < (2 * s + 1) * (2 * s + 1) * n * (n - 1)
+is-before-midpoint-above n v s t = ltb→lt _ _ (and-l (before-midpoint-above n (pos v) s) (from-midpoint-below n (pos v) s) t)
 
-pub below : (n v s : ℕ) → 0 < s → T (is-deviation n (pos v) s) → (2 * s - 1) * (2 * s - 1) * n * (n - 1) ≤ 4 * v
-below n v s h t =
+pub is-from-midpoint-below : (n v s : ℕ) → 0 < s → T (is-deviation n (pos v) s) → (2 * s - 1) * (2 * s - 1) * n * (n - 1) ≤ 4 * v
+is-from-midpoint-below n v s h t =
     leb→le _ _ (rw (ne-eqb s 0 (λ z. omega arith)) at (and-r (before-midpoint-above n (pos v) s) (from-midpoint-below n (pos v) s) t))
 
--- V itself is before its midpoint above, so V tries are enough.
+-- The unrounded deviation is before the midpoint above s = V, 4V < (2V+1)²·n·(n−1), so V tries are enough.
 enough : (n v : ℕ) → 2 ≤ n → before-midpoint-above n (pos v) v ≡ true
 enough n v low =
     let once : 1 ≤ 2 * v + 1 = omega arith in
@@ -34,16 +34,16 @@ enough n v low =
     let least : (2 * v + 1) * 1 * 2 * 1 ≤ (2 * v + 1) * (2 * v + 1) * n * (n - 1) = mul-le-mul (mul-le-mul (mul-le-mul-left (2 * v + 1) once) low) one in
     lt-ltb (4 * v) ((2 * v + 1) * (2 * v + 1) * n * (n - 1)) (omega arith)
 
--- A number past one that is not before its midpoint above is from its midpoint below.
-pub past : (n v s : ℕ) → before-midpoint-above n (pos v) s ≡ false → T (from-midpoint-below n (pos v) (suc s))
-past n v s e =
+-- If the unrounded deviation is not before the midpoint above s, it is at or past the midpoint below s + 1, which is the same.
+pub from-midpoint-below-next : (n v s : ℕ) → before-midpoint-above n (pos v) s ≡ false → T (from-midpoint-below n (pos v) (suc s))
+from-midpoint-below-next n v s e =
     let same : 2 * suc s - 1 ≤ 2 * s + 1 = omega arith in
     rw (eqb·suc-zero s) (le→leb _ _ (le-trans (grows n same) (ltb-false _ _ e)))
 
--- No number from its midpoint below is large.
-pub small : (n v s : ℕ) → SpreadInBounds n v → T (from-midpoint-below n (pos v) s) → s ≤ 10000000
-small n v zero h t = zero-le
-small n v (suc s) h t =
+-- For n and V in bounds, if the unrounded deviation is at or past the midpoint below s, then s is at most 10,000,000.
+pub deviation-is-small : (n v s : ℕ) → SpreadInBounds n v → T (from-midpoint-below n (pos v) s) → s ≤ 10000000
+deviation-is-small n v zero h t = zero-le
+deviation-is-small n v (suc s) h t =
     elim (decLe (suc s) 10000000) [
       | yes k ↦ k
       | no k ↦
@@ -54,7 +54,7 @@ small n v (suc s) h t =
           absurd (omega (arith, grows n odd))
     ]
 
--- The first number that is before its midpoint above meets both, and is not above V;
+-- The first s with the unrounded deviation before the midpoint above it meets both inequalities,
 meets-from : (n v : ℕ) → 2 ≤ n → T (is-deviation n (pos v) (first-from (before-midpoint-above n (pos v)) v 0))
 meets-from n v low =
     and-i (before-midpoint-above n (pos v) s) (from-midpoint-below n (pos v) s)
@@ -65,23 +65,23 @@ meets-from n v low =
 
     by : (r : ℕ) → s ≡ r → T (from-midpoint-below n (pos v) r)
     by zero e = tt
-    by (suc r) e = past n v r (none-before (before-midpoint-above n (pos v)) v 0 r zero-le (omega (arith, e)))
+    by (suc r) e = from-midpoint-below-next n v r (none-before (before-midpoint-above n (pos v)) v 0 r zero-le (omega (arith, e)))
 
 -- so the deviation does.
-pub meets : (n v : ℕ) → 2 ≤ n → T (is-deviation n (pos v) (deviation n (pos v)))
+pub deviation-meets-both : (n v : ℕ) → 2 ≤ n → T (is-deviation n (pos v) (deviation n (pos v)))
 unfolding deviation
-meets n v low =
+deviation-meets-both n v low =
     subst⁻¹ T
     (first-passes (is-deviation n (pos v)) v 0 _ zero-le (first-at-most (before-midpoint-above n (pos v)) v 0) (is-true _ (meets-from n v low)))
     tt
 
--- Of two that meet both, neither is below the other: the midpoint above the one is not above the midpoint below the other.
+-- Of two numbers that meet both, neither is below the other: for s < r, the midpoint above s is not above the midpoint below r.
 not-less : (n v s r : ℕ) → T (is-deviation n (pos v) s) → T (is-deviation n (pos v) r) → s < r → ⊥
 not-less n v s r here there h =
     let odd : 2 * s + 1 ≤ 2 * r - 1 = omega arith in
-    omega (arith, above n v s here, below n v r (omega arith) there, grows n odd)
+    omega (arith, is-before-midpoint-above n v s here, is-from-midpoint-below n v r (omega arith) there, grows n odd)
 
-pub determined : (n v s : ℕ) → 2 ≤ n → T (is-deviation n (pos v) s) → deviation n (pos v) ≡ s
-determined n v s low here =
-    let there : T (is-deviation n (pos v) (deviation n (pos v))) = meets n v low in
+pub only-deviation-meets : (n v s : ℕ) → 2 ≤ n → T (is-deviation n (pos v) s) → deviation n (pos v) ≡ s
+only-deviation-meets n v s low here =
+    let there : T (is-deviation n (pos v) (deviation n (pos v))) = deviation-meets-both n v low in
     omega (arith, not-less n v s (deviation n (pos v)) here there, not-less n v (deviation n (pos v)) s there here)

@@ -1,5 +1,5 @@
--- A side's percentage never falls as its distance grows, and two sides whose distances come to 0 or more come to 100 percent or more:
--- by any rule for rows and any column that are what is asked of them.
+-- A side's percentage never falls as its distance grows; and where two distances add up to 0 or more, their sides add up to 100 percent or more.
+-- Both hold by any rule for rows that is a `RowRule` and any column that is a `Column`.
 use mathlib.Core.Path.{_≡_, refl}
 use mathlib.Core.Bool.{Bool, true, false}
 use mathlib.Core.List.{List}
@@ -66,7 +66,7 @@ module _ (rule : Rule) (column : List ℕ) (n : ℕ) (rows : RowRule rule n) (sh
           (λ p. rw (outside d o, outside e p) (diff-le (nat 10000 ⊖ nat (at d)) (nat 10000 ⊖ nat (at e)) (omega (arith, grows e d (λ above. rows .grows-outside v d e above p h)))))
           (≤ℤ-total (pos 0) e)
 
-  -- Where one is outside the other is as far inside or farther.
+  -- If d is outside the limit and d + e is 0 or more, then e is at least as far inside, and the two sides come to 100 percent or more.
   one-outside : (d e : ℤ) → d <ℤ pos 0 → pos 0 ≤ℤ (d +ℤ e) → hundred-percent ≤ℤ (percentage d +ℤ percentage e)
   one-outside d e o h =
       let opposite : pos 0 ≤ℤ negℤ d = neg-flips (<ℤ→≤ℤ o) in

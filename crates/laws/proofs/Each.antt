@@ -1,4 +1,4 @@
--- A test of every number in a run, which antt computes, says the same at each of them.
+-- One test that computes whether every number of a run passes, and what it says of each of them.
 use mathlib.Core.Path.{subst}
 use mathlib.Core.Bool.{Bool, true, _&&_}
 use Prim.Native.Nat.{ℕ, zero, suc, _+_, _≤_, _<_}
@@ -7,7 +7,7 @@ use native.Mathlib.Omega.{arith}
 use lib.Dec.{T}
 use lib.Ieee.Fits.{and-l, and-r}
 
--- so many numbers pass, from i on
+-- the first `size` numbers from i on all pass
 abbrev pub each : (ℕ → Bool) → ℕ → ℕ → Bool
 each passes zero i = true
 each passes (suc size) i = passes i && each passes size (suc i)

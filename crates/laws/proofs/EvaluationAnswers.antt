@@ -1,5 +1,5 @@
--- Wider limits and the sum of the sides, of what a caller gets: of any answers that the promises of `quality::evaluate`, where the lot
--- is `lot-of` its limits and readings, and of `quality::evaluate_held`, where it is `lot-in` memory, allow.
+-- The laws of wider limits and of the sides' sum for what a caller gets: for any answers that the promises of two entries allow. The lot of
+-- `quality::evaluate` is `lot-of` its limits and readings, and that of `quality::evaluate_held` is `lot-in` memory.
 use mathlib.Core.Path.{_≡_, sym, ap, _∙_}
 use native.Mathlib.Omega.{arith}
 use lib.IntN.{ℤ, pos, _+ℤ_, _-ℤ_}
@@ -22,10 +22,10 @@ use Rattle.laws.proofs.Table.{table-106-1-column}
 use Rattle.laws.proofs.Accepted.{answered}
 use Rattle.laws.proofs.Nearest.{nearest-row-rule, nearest-even-rule}
 use Rattle.laws.proofs.NoClamp.{no-clamp, sides-add-up}
-use Rattle.laws.proofs.OneLimit.{one-limit-adds-up}
+use Rattle.laws.proofs.OneLimit.{equal-limits-add-up}
 use Rattle.laws.proofs.Wider.{wider-is-not-lower}
 
--- What is found for a lot that is answered is a column: it starts at 50.00, never falls and ends at 100.00.
+-- Where a lot is answered, the table has a column for it, which starts at 50.00, never falls and ends at 100.00.
 pub answered-has-a-column : (lot : Lot) (p : Percentages) → evaluation-says lot ≡ answers p → Column (entries (column-for lot))
 unfolding evaluation-says
 answered-has-a-column lot p e =
@@ -67,4 +67,4 @@ equal-limits-hold-nothing lot z p above e =
     let a : Totals = totals (lot .n) (lot .readings) in
     let even = nearest-even-rule (lot .n) (omega (arith, h .0 .least)) in
     rw (sym (h .1))
-    (no-clamp nearest (entries (column-for lot)) both ∙ ap (λ (x : ℤ). x -ℤ pos 10000) (one-limit-adds-up nearest (entries (column-for lot)) a z even (answered-has-a-column both p (sym e)) above))
+    (no-clamp nearest (entries (column-for lot)) both ∙ ap (λ (x : ℤ). x -ℤ pos 10000) (equal-limits-add-up nearest (entries (column-for lot)) a z even (answered-has-a-column both p (sym e)) above))

@@ -43,7 +43,7 @@ pub refusal-is-zero : {A : Type 0} (said : Said A) → ZeroWhenAnswered (host-re
 refusal-is-zero (refused r) = (λ e. absurd (some-number r e), λ a. absurd (let z : _≡_ {A = ℕ} 0 1 = cc (a .1) in omega arith))
 refusal-is-zero (answers a) = (λ e. (a, refl), λ e. refl)
 
--- So it is of any answer that begins with that part; and where it is 0, what is given is the answer.
+-- The same holds of any of C's answers that begins with the refusal; and where its number is 0, what C is given is the answer.
 module _ {A H : Type 0} (host : Said A → H) (part : H → HostRefusal) (refusals : (r : Refusal) → part (host (refused r)) ≡ refusal-part r) (none : (a : A) → part (host (answers a)) ≡ no-refusal) where
   begins : (said : Said A) → part (host said) ≡ host-refusal said
   begins (refused r) = refusals r

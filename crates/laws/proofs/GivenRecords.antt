@@ -1,4 +1,5 @@
--- The record's returns through C's structs: of what `tulpavice_write` and `tulpavice_read` give, and of the lent bytes.
+-- Through C's structs, a lot that is written reads back as the same lot, and a record that is accepted is written again as the same bytes: by what
+-- `tulpavice_write` and `tulpavice_read` give, and the lent bytes.
 use mathlib.Core.Path.{_≡_, refl, ap, _∙_}
 use mathlib.Core.List.{List, [], _∷_, _++_, map}
 use Prim.Native.Nat.{ℕ, zero, suc, _≤_}
@@ -44,7 +45,7 @@ unfolding host-lot
 held-lot-returns h size =
     λ i. record { upper = limit-back (h .upper) i; lower = limit-back (h .lower) i; count = h .count; readings = places-back most (h .readings) size i }
 
--- So a lot that was read is, in C's struct, the lot of its record.
+-- So the lot in C's struct after a read is the lot that was read.
 pub given-lot-is-read : (bs : List ℕ) (lot : Lot) (r : HostRead) → read-says bs ≡ answers lot → r ≡ host-read (read-leaves bs) → lot-in (held-lot (r .lot)) ≡ lot
 given-lot-is-read bs lot r e f =
     ap (λ (x : HostRead). lot-in (held-lot (x .lot))) f

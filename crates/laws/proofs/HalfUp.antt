@@ -1,4 +1,4 @@
--- A fraction has one nearest whole number: of two the greater would be at least one above, and the bounds of both leave less than one.
+-- A fraction has one nearest whole number: two of them would lie at least 1 apart, and the bounds of both leave less than 1.
 use mathlib.Core.Path.{_≡_}
 use mathlib.Core.Logic.{⊎-elim}
 use native.Mathlib.Nat.{mul-le-mul-left}

@@ -1,4 +1,4 @@
--- A record whose first 13 bytes are not refused is accepted so far.
+-- Where none of refusals 1 to 4 applies to a record, `HeadAccepted` holds of it.
 use mathlib.Core.Path.{_≡_}
 use mathlib.Core.Bool.{Bool, false, not, _||_}
 use mathlib.Core.List.{List}
@@ -16,11 +16,11 @@ use Rattle.laws.proofs.Ruled.{none-met}
 use Rattle.laws.proofs.Tests.{neither}
 use Rattle.laws.proofs.Accepted.{count-allowed}
 
--- Where refusal 1 does not apply, there are 13 bytes to read.
+-- Where refusal 1 does not apply, there are at least 13 bytes.
 pub long-enough : (bs : List ℕ) → size-case bs .applies ≡ false → head-size ≤ length bs
 long-enough bs e = ltb-false (length bs) head-size (neither (ltb (length bs) head-size) _ e .0)
 
--- Bytes that are no limit's spell 0.
+-- Where refusal 3 does not apply, the bytes of an absent limit spell 0.
 zero-when-absent : (present : Bool) (x : ℕ) → not (present || eqb x 0) ≡ false → present ≡ false → x ≡ 0
 zero-when-absent present x h absent = eqb-true x 0 (rw absent at (not-false (present || eqb x 0) h))
 

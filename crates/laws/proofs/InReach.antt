@@ -18,42 +18,42 @@ use Rattle.rules.specs.Entries.{mixture-says}
 use Rattle.laws.specs.Between.{Between}
 use Rattle.laws.specs.InReach.{InReach}
 use Rattle.laws.proofs.Tests.{neither}
-use Rattle.laws.proofs.Bounds.{in-range-bound, pair-parts, below, above}
+use Rattle.laws.proofs.Bounds.{in-range-bound, pair-parts, offset-below, offset-above}
 use Rattle.laws.proofs.Ruled.{ruled-passed, ruled-refused}
 use Rattle.laws.proofs.Between.{inside, not-outside}
 
--- A number in range is from −500,000 to 500,000, and back.
+-- A number p − q is in range exactly when neither of p and q is more than 500,000 above the other.
 module _ {z : ℤ} {p q : ℕ} (d : Diff z p q) where
-  near : not (in-range z) ≡ false → (p ≤ q + 500000) × (q ≤ p + 500000)
-  near e = within-diff d (in-range-bound z (not-false (in-range z) e))
+  within-reach : not (in-range z) ≡ false → (p ≤ q + 500000) × (q ≤ p + 500000)
+  within-reach e = within-diff d (in-range-bound z (not-false (in-range z) e))
 
   not-far : (p ≤ q + 500000) × (q ≤ p + 500000) → not (in-range z) ≡ false
   not-far h = let small : natAbs z ≤ 500000 = diff-within d h in rw (le-leZ (within-low z small), le-leZ (within-high z small))
 
 module _ (mixture minimum target : ℤ) where
-  -- A minimum and a target to which the case does not apply are in reach,
+  -- Where refusal 5 does not apply, the minimum and the target are in reach,
   case-passed : offset-case minimum target .applies ≡ false → InReach minimum target
   case-passed e =
       let h = neither (pair-out (vma-pair minimum)) (pair-out (voids-pair target)) e in
       let vma = pair-parts (vma-pair minimum) (h .0) in
       let voids = pair-parts (voids-pair target) (h .1) in
-      let least = near (var minimum ⊖ nat (below vma-pair)) (vma .1) in
-      let greatest = near (var minimum ⊕ nat (above vma-pair)) (vma .0) in
-      let low = near (var target ⊖ nat (below voids-pair)) (voids .1) in
-      let high = near (var target ⊕ nat (above voids-pair)) (voids .0) in
+      let least = within-reach (var minimum ⊖ nat (offset-below vma-pair)) (vma .1) in
+      let greatest = within-reach (var minimum ⊕ nat (offset-above vma-pair)) (vma .0) in
+      let low = within-reach (var target ⊖ nat (offset-below voids-pair)) (voids .1) in
+      let high = within-reach (var target ⊕ nat (offset-above voids-pair)) (voids .0) in
       record {
         minimum = record { low = diff-le (⊝ nat 499300) (var minimum) (omega arith); high = diff-le (var minimum) (nat 497000) (omega arith) };
         target = record { low = diff-le (⊝ nat 498650) (var target) (omega arith); high = diff-le (var target) (nat 498650) (omega arith) };
       }
 
-  -- and to those in reach it does not apply.
+  -- and where they are in reach, it does not apply.
   passes : InReach minimum target → offset-case minimum target .applies ≡ false
   passes h =
       rw (
-        not-far (var minimum ⊕ nat (above vma-pair)) (omega arithℤ),
-        not-far (var minimum ⊖ nat (below vma-pair)) (omega arithℤ),
-        not-far (var target ⊕ nat (above voids-pair)) (omega arithℤ),
-        not-far (var target ⊖ nat (below voids-pair)) (omega arithℤ),
+        not-far (var minimum ⊕ nat (offset-above vma-pair)) (omega arithℤ),
+        not-far (var minimum ⊖ nat (offset-below vma-pair)) (omega arithℤ),
+        not-far (var target ⊕ nat (offset-above voids-pair)) (omega arithℤ),
+        not-far (var target ⊖ nat (offset-below voids-pair)) (omega arithℤ),
       )
 
   -- The lookup answers the mixture's limits for a minimum and a target in reach and a mixture number from 0 to 3.

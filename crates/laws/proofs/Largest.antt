@@ -35,7 +35,7 @@ module _ (passes : ℕ → Bool) where
       by true e below = rw (stops m e) e
       by false e below = rw (goes-on m e) below
 
-  -- and nothing above it does.
+  -- and nothing above it up to m does.
   pub none-above : (m k : ℕ) → largest passes m < k → k ≤ m → passes k ≡ false
   unfolding largest
   none-above zero k low high = absurd (omega arith)
@@ -49,7 +49,7 @@ module _ (passes : ℕ → Bool) where
             | no h ↦ below (rw (goes-on m e) at low) (omega arith)
           ]
 
-  -- Where whatever is below one that passes does so too, it is the one that passes with the next not passing.
+  -- Suppose that every number below one that passes passes too. If k passes, and k is m or k + 1 does not pass, then k is the largest.
   pub largest-is : ((j k : ℕ) → j ≤ k → passes k ≡ true → passes j ≡ true) → (m k : ℕ) → k ≤ m → passes k ≡ true → (k < m → passes (suc k) ≡ false) → largest passes m ≡ k
   largest-is falling m k low here next = omega (arith, largest-at-most m, not-below, not-above)
     where
@@ -61,7 +61,7 @@ module _ (passes : ℕ → Bool) where
           true≢false
           (sym (falling (suc k) (largest passes m) h (largest-passes (falling 0 k zero-le here) m)) ∙ next (omega (arith, largest-at-most m)))
 
--- It grows as more numbers pass.
+-- If whatever passes f passes g, the largest for f is not above the largest for g.
 pub largest-grows : (f g : ℕ → Bool) → ((k : ℕ) → f k ≡ true → g k ≡ true) → (m : ℕ) → largest f m ≤ largest g m
 unfolding largest
 largest-grows f g more zero = le-refl zero

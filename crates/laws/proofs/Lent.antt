@@ -42,7 +42,7 @@ fitting-count size e =
     let few : allowed (size / 4) ≡ true = and-eq-true-iff (eqb (size % 4) 0) (allowed (size / 4)) .0 e .1 in
     leb-true (size / 4) most (and-eq-true-iff (leb 2 (size / 4)) (leb (size / 4) most) .0 few .1)
 
--- The PWL of totals and limits is no large number, before it is known to be a percentage.
+-- For any totals and limits |PWL| is at most 30,000: a first bound, before it is known to be a percentage.
 pub pwl-small : (a : Totals) {column : List ℕ} → Column column → (upper lower : Limit) → natAbs (percentages-of nearest column a upper lower .pwl .0) ≤ 30000
 unfolding percentages-of
 pwl-small a {column} shape upper lower =
@@ -61,8 +61,8 @@ row-of-totals a upper lower =
 -- What is known of a lent lot that is not refused, whose totals are these.
 pub record LentAccepted (upper lower : Limit) (bs : List ℕ) (a : Totals) : Type 0 where
   pub bounded : Bounded a
-  pub upper-near : out-of-range upper ≡ false
-  pub lower-near : out-of-range lower ≡ false
+  pub upper-in-range : out-of-range upper ≡ false
+  pub lower-in-range : out-of-range lower ≡ false
   pub row : row-says upper lower bs ≡ answers (row-of-totals a upper lower)
 
 module _ (upper lower : Limit) (bs : List ℕ) where
@@ -74,7 +74,7 @@ module _ (upper lower : Limit) (bs : List ℕ) where
   unfolding lent-lot
   lent-lot-is-listed = λ i. record { n = sym (length-fours n bs) i; upper = upper; lower = lower; readings = fours n bs }
 
-  -- Bytes whose size fits meet what a lot of those numbers does,
+  -- Where the size of the bytes fits, they get the refusal or the values that the lot of those numbers gets,
   pub fitting-meets : {A : Type 0} (a : A) → size-fits (length bs) ≡ true → ruled (row-meets bs (lent-lot upper lower bs)) a ≡ ruled (counted-meets (lot-of upper lower (fours n bs))) a
   unfolding row-meets lent-lot
   fitting-meets a e =
@@ -84,7 +84,7 @@ module _ (upper lower : Limit) (bs : List ℕ) where
       ∙ sym (ruled-passed (count-case n) (lot-meets lot) a (ap not few))
       ∙ ap (λ (l : Lot). ruled (counted-meets l) a) lent-lot-is-listed
 
-  -- and after their size what a lot of those numbers does after its count.
+  -- and what is said of their totals is what is said of that lot's after its count.
   pub fitting-totals : size-fits (length bs) ≡ true → totalled (row-meets bs) (lent-lot upper lower bs) ≡ totalled lot-meets (lot-of upper lower (fours n bs))
   unfolding totalled row-meets
   fitting-totals e = ruled-passed (bytes-count-case bs) _ _ (ap not e) ∙ ap (totalled lot-meets) lent-lot-is-listed
@@ -99,8 +99,8 @@ module _ (upper lower : Limit) (bs : List ℕ) where
         let accepted : LotAccepted (lot-of upper lower (fours n bs)) = lot-accepted _ (sym (fitting-meets tt fits) ∙ answered .0) in
         record {
           bounded = totals-bounded (lent-readings accepted) (sym (answered .1) ∙ ap (λ (m : ℕ). totals m (fours n bs)) (sym (length-fours n bs)));
-          upper-near = accepted .upper-near;
-          lower-near = accepted .lower-near;
+          upper-in-range = accepted .upper-in-range;
+          lower-in-range = accepted .lower-in-range;
           row = ruled-unrefused (row-meets bs lot) _ (answered .0) ∙ ap (λ (b : Totals). answers (row-of-totals b upper lower)) (answered .1);
         }
 

@@ -1,4 +1,4 @@
--- The lots that the entries take, a lent list with two limits and a lot in memory: turned or moved they are such lots again.
+-- The entries take two kinds of lot, a lent list with two limits and a lot in memory. Turned or moved, each is a lot of its kind again.
 use mathlib.Core.Path.{_≡_, refl, ap}
 use mathlib.Core.Bool.{Bool, true, false, cond, _||_}
 use mathlib.Core.List.{List, [], _∷_, map}
@@ -22,7 +22,7 @@ use Rattle.laws.specs.Totalled.{walk-says, limited-say, with-limits-say,
 use Rattle.laws.specs.Turned.{turned-limit, turned, turned-held}
 use Rattle.laws.specs.Moved.{moved-readings, moved-limit, moved, moved-held, Counted}
 
--- The first places of a lot in memory after something was done at every place.
+-- To apply f at every place of a lot in memory and take the first k is to take the first k and apply f.
 first-places : (f : ℤ → ℤ) (k : ℕ) (xs : List Thousandths) → take k (plain (map (λ (x : Thousandths). thousandths (f (x .0))) xs)) ≡ map f (take k (plain xs))
 first-places f zero xs = refl
 first-places f (suc k) [] = refl
@@ -40,19 +40,19 @@ moved-lot-of amount upper lower xs = rw (length-map xs (λ (x : ℤ). x +ℤ amo
 pub moved-lot-in : (amount : ℤ) (held : HeldLot) → lot-in (moved-held amount held) ≡ moved amount (lot-in held)
 moved-lot-in amount held = rw (first-places (λ (x : ℤ). x +ℤ amount) (held .count) (held .readings))
 
--- Their readings are as many as they say, up to what a lot can hold.
+-- Lots of both kinds have as many readings as they say, up to what a lot can hold.
 pub lot-of-counted : (upper lower : Limit) (xs : List ℤ) → Counted (lot-of upper lower xs)
 lot-of-counted upper lower xs few = refl
 
 pub lot-in-counted : (held : HeldLot) → length (held .readings) ≡ most → Counted (lot-in held)
 lot-in-counted held e few = length-take-le (held .count) (places held) (rw length-map (omega arith))
 
--- The first places of a lot in memory as plain numbers, lent with its limits, are that lot.
+-- The readings of a lot in memory, lent as plain numbers with its limits, are the same lot.
 pub lent-places : (held : HeldLot) (numbers : List ℤ) → length numbers ≡ most → numbers ≡ places held → held .count ≤ most → lot-of (held .upper) (held .lower) (take (held .count) numbers) ≡ lot-in held
 lent-places held numbers size e few =
     λ i. record { n = length-take-le (held .count) numbers (omega arith) i; upper = held .upper; lower = held .lower; readings = take (held .count) (e i) }
 
--- What a lot meets after its count, with its totals, is what a walk over its readings says, with its limits.
+-- A walk over a lot's readings, with its limits, says what the lot's cases after its count say: its totals, or the first refusal that applies.
 pub walked-with-limits : (upper lower : Limit) (xs : List ℤ) → with-limits-say upper lower (walk-says xs) ≡ totalled lot-meets (lot-of upper lower xs)
 unfolding walk-says with-limits-say totalled ruled
 walked-with-limits upper lower xs = by (out-of-range upper || out-of-range lower) (any-out xs)

@@ -54,25 +54,25 @@ module _ (rule : Rule) (column : List ℕ) (amount : ℤ) where
 -- ---- the laws
 
 -- Moving all by one amount changes nothing, where both lots are in range: the same answer or the same refusal, by any rule for rows and
--- whatever is found. A count that is refused is so whatever the readings; any other says how many they are.
+-- whatever is found. `Counted` is enough, since a count above what a lot can hold is refused whatever the readings are.
 pub moving-changes-nothing :
     (rule : Rule) (found : Found) (amount : ℤ) (lot : Lot) →
     Counted lot → InRange lot → InRange (moved amount lot) →
     evaluated rule found (moved amount lot) ≡ evaluated rule found lot
 unfolding evaluated evaluation-meets ruled
-moving-changes-nothing rule found amount lot says near near′ = by (count-case (lot .n) .applies) refl
+moving-changes-nothing rule found amount lot says all-in-range all-in-range′ = by (count-case (lot .n) .applies) refl
   where
     by : (b : Bool) → count-case (lot .n) .applies ≡ b → evaluated rule found (moved amount lot) ≡ evaluated rule found lot
     by true e = rw e
-    by false e = rw (near, near′, none-stays amount (lot .upper) (lot .lower), crossed-stays amount (lot .upper) (lot .lower), percentages-stay rule (entries found) amount lot (says (count-allowed (lot .n) e .1)))
+    by false e = rw (all-in-range, all-in-range′, none-stays amount (lot .upper) (lot .lower), crossed-stays amount (lot .upper) (lot .lower), percentages-stay rule (entries found) amount lot (says (count-allowed (lot .n) e .1)))
 
--- The deviation does not change either, where no reading is out of range.
+-- The deviation does not change either, where no reading is out of range before or after.
 pub moving-keeps-deviation :
     (amount : ℤ) (xs : List ℤ) →
     any-out xs ≡ false → any-out (moved-readings amount xs) ≡ false →
     deviation-says (moved-readings amount xs) ≡ deviation-says xs
 unfolding deviation-says readings-meet ruled
-moving-keeps-deviation amount xs near near′ = rw (near, near′, length-map, spread-stays amount xs)
+moving-keeps-deviation amount xs all-in-range all-in-range′ = rw (all-in-range, all-in-range′, length-map, spread-stays amount xs)
 
 -- T moves by n times the amount.
 pub moving-moves-sum :

@@ -1,4 +1,4 @@
--- Moving all by one amount changes nothing but T: of what a caller gets, which is any answers that the promises of `quality::evaluate`,
+-- Moving all by one amount changes nothing but T, for what a caller gets: for any answers that the promises of `quality::evaluate`,
 -- `quality::evaluate_held`, `readings::deviation` and `readings::mean` allow.
 use mathlib.Core.Path.{_≡_, sym, ap, _∙_, subst}
 use mathlib.Core.Bool.{false}
@@ -23,11 +23,11 @@ use Rattle.laws.proofs.Lots.{moved-lot-of, moved-lot-in, lot-of-counted
 
 of-lots : (amount : ℤ) (lot other : Lot) (r q : Evaluation) → other ≡ moved amount lot → Counted lot → InRange lot → InRange other → evaluation-said r ≡ evaluation-says lot → evaluation-said q ≡ evaluation-says other → q ≡ r
 unfolding evaluation-says
-of-lots amount lot other r q same says near near′ e f =
+of-lots amount lot other r q same says all-in-range all-in-range′ e f =
     evaluation-injective q r
-    (f ∙ ap evaluation-says same ∙ moving-changes-nothing nearest (column-for lot) amount lot says near (subst InRange same near′) ∙ sym e)
+    (f ∙ ap evaluation-says same ∙ moving-changes-nothing nearest (column-for lot) amount lot says all-in-range (subst InRange same all-in-range′) ∙ sym e)
 
--- Moving all by one amount changes nothing in the answer to readings in a lent list, with two limits.
+-- Moving all by one amount, with all in range before and after, does not change the answer to readings in a lent list, with two limits.
 pub moved-answer-is-the-same :
     (amount : ℤ) (upper lower : Limit) (xs : List ℤ) (r q : Evaluation) →
     InRange (lot-of upper lower xs) →
@@ -38,7 +38,8 @@ pub moved-answer-is-the-same :
 moved-answer-is-the-same amount upper lower xs r q =
     of-lots amount (lot-of upper lower xs) _ r q (moved-lot-of amount upper lower xs) (lot-of-counted upper lower xs)
 
--- Moving all by one amount changes nothing in the answer to a lot in memory, which has as many places as a lot can hold.
+-- Moving all by one amount, with all in range before and after, does not change the answer to a lot in memory, which has as many places as a lot
+-- can hold.
 pub moved-held-answer-is-the-same :
     (amount : ℤ) (held : HeldLot) (r q : Evaluation) →
     length (held .readings) ≡ most →
@@ -50,15 +51,15 @@ pub moved-held-answer-is-the-same :
 moved-held-answer-is-the-same amount held r q places =
     of-lots amount (lot-in held) _ r q (moved-lot-in amount held) (lot-in-counted held places)
 
--- Moving all readings by one amount does not change the deviation, where none is out of range.
+-- Moving all readings by one amount does not change the deviation, where none is out of range before or after.
 pub moved-deviation-is-the-same :
     (amount : ℤ) (xs : List ℤ) (r q : DeviationAnswer) →
     any-out xs ≡ false → any-out (moved-readings amount xs) ≡ false →
     deviation-said r ≡ deviation-says xs →
     deviation-said q ≡ deviation-says (moved-readings amount xs) →
     q ≡ r
-moved-deviation-is-the-same amount xs r q near near′ e f =
-    deviation-injective q r (f ∙ moving-keeps-deviation amount xs near near′ ∙ sym e)
+moved-deviation-is-the-same amount xs r q all-in-range all-in-range′ e f =
+    deviation-injective q r (f ∙ moving-keeps-deviation amount xs all-in-range all-in-range′ ∙ sym e)
 
 -- Moving all readings by one amount moves T by n times the amount.
 pub moved-mean-moves :

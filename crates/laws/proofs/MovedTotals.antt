@@ -44,7 +44,7 @@ spread-stays c xs =
     (diff-eq (nat n ⊗ (var z ⊕ nat 2 ⊗ (var c ⊗ var t) ⊕ nat n ⊗ (var c ⊗ var c)) ⊖ (var t ⊕ nat n ⊗ var c) ⊗ (var t ⊕ nat n ⊗ var c))
     (nat n ⊗ var z ⊖ var t ⊗ var t) (omega arith))
 
--- Both ends of a distance move by n times the amount.
+-- Both ends of a distance move by n times the amount, so that it stays.
 pub upper-distance-stays : (amount : ℤ) (xs : List ℤ) (u : ℤ) → upper-distance (totals (length xs) (moved-readings amount xs)) (u +ℤ amount) ≡ upper-distance (totals (length xs) xs) u
 unfolding upper-distance
 upper-distance-stays c xs u =

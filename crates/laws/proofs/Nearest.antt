@@ -1,4 +1,4 @@
--- The nearest rule is what is asked of a rule for rows: the row goes by the magnitude of the distance, and grows with it.
+-- The nearest rule is a `RowRule` and an `EvenRule`: its row depends on the magnitude of the distance alone, and never falls as that grows.
 use mathlib.Core.Path.{_≡_, refl, ap}
 use mathlib.Core.Logic.{inl}
 use Prim.Native.Nat.{ℕ, _-_, _*_, _≤_, zero-le}
@@ -28,7 +28,7 @@ index-even : (n : ℕ) (d : ℤ) → index-squared n (negℤ d) ≡ index-square
 unfolding index-squared square
 index-even n d = ap (λ (x : ℤ). pos (1600 * (n - 1)) *ℤ x) (square-neg d)
 
--- A distance and its opposite admit the same rows, so that their row is one.
+-- A distance and its opposite admit the same rows, so that they have the same row.
 admits-even : (n : ℕ) (v d : ℤ) (k : ℕ) → admits n v (negℤ d) k ≡ admits n v d k
 unfolding admits
 admits-even n v d k = rw (index-even n d)

@@ -1,4 +1,4 @@
--- A row whose midpoints enclose an index is the nearest by distance, of two that are as near the greater; and there is one such row.
+-- A row whose midpoints enclose an index is the nearest by distance, a tie going to the greater row; and no second row is nearest.
 use mathlib.Core.Path.{_≡_, subst}
 use Prim.Native.Nat.{ℕ, _+_, _*_, _≤_, _<_}
 use native.Mathlib.Nat.{mul-le-mul-right}
@@ -10,7 +10,7 @@ use Rattle.rules.specs.Table.{last-row}
 use Rattle.laws.specs.Ratio.{Ratio, ratio, plus, minus, AtMost, Less}
 use Rattle.laws.specs.Root.{Root}
 use Rattle.laws.specs.NearestRow.{row-index, BetweenMidpoints, Within, AsNear, NearestRow}
-use Rattle.laws.proofs.Root.{up-to-falls, root-up-to-grows, across, across-below, below-up-to}
+use Rattle.laws.proofs.Root.{up-to-trans, root-up-to-trans, across-root, across-below, below-up-to}
 
 abbrev below : ℕ → Ratio
 below k = ratio (pos (2 * k) -ℤ pos 1) 40
@@ -21,7 +21,7 @@ above k = ratio (pos (2 * k + 1)) 40
 -- ---- between rows, at a distance d
 
 module _ (d : Ratio) {j k : ℕ} where
-  -- A row that is not above another, with the distance taken from both or added to both.
+  -- If j ≤ k, then j/20 − d ≤ k/20 − d and j/20 + d ≤ k/20 + d.
   less-keeps : j ≤ k → AtMost (minus (row-index j) d) (minus (row-index k) d)
   less-keeps low =
       record {
@@ -38,7 +38,7 @@ module _ (d : Ratio) {j k : ℕ} where
             (omega (arith, mul-le-mul-right (20 * d .under) (mul-le-mul-right (d .under) low)));
       }
 
-  -- Where the distance from a lower row j comes to the midpoint below k, the distance from k does.
+  -- For j < k: if going up by d from row j's index reaches the midpoint below k, then going down by d from row k's does.
   from-lower : j < k → AtMost (below k) (plus (row-index j) d) → AtMost (minus (row-index k) d) (below k)
   from-lower low h =
       record {
@@ -51,7 +51,7 @@ module _ (d : Ratio) {j k : ℕ} where
             ));
       }
 
-  -- Where the distance from a higher row k comes to the midpoint above j, the distance from j does.
+  -- For j < k: if going down by d from row k's index passes the midpoint above j, then going up by d from row j's reaches it.
   from-higher : j < k → Less (minus (row-index k) d) (above j) → AtMost (above j) (plus (row-index j) d)
   from-higher low h =
       record {
@@ -71,21 +71,21 @@ module _ (q : Root) (some : 1 ≤ q .square .under) (k : ℕ) (e : BetweenMidpoi
   as-near j table d proper w =
       elim (decLt j k) [
         | yes low ↦ (
-          up-to-falls (omega arith) (from-lower d low (across some (e .from-below) (w .1))) (e .from-below),
-          root-up-to-grows (omega arith) (w .1) (more-keeps d (omega arith)),
+          up-to-trans (omega arith) (from-lower d low (across-root some (e .from-below) (w .1))) (e .from-below),
+          root-up-to-trans (omega arith) (w .1) (more-keeps d (omega arith)),
         )
         | no not-lower ↦
             elim (decLt k j) [
               | yes high ↦
                   let past = e .before-above (omega arith) in (
-                    up-to-falls (omega arith) (less-keeps d (omega arith)) (w .0),
-                    root-up-to-grows (omega arith) (below-up-to past) (from-higher d high (across-below (omega arith) (w .0) past)),
+                    up-to-trans (omega arith) (less-keeps d (omega arith)) (w .0),
+                    root-up-to-trans (omega arith) (below-up-to past) (from-higher d high (across-below (omega arith) (w .0) past)),
                   )
               | no not-higher ↦ subst (Within d q) (omega arith) w
             ]
       ]
 
-  -- A row above k is not as near: the index lies within 1/40 of k, and not of it.
+  -- A row above k is not as near: the index lies within 1/40 of row k's, and not within 1/40 of that row's.
   not-greater : (j : ℕ) → j ≤ last-row → AsNear q j k → j ≤ k
   not-greater j table near =
       elim (decLe j k) [
@@ -95,7 +95,7 @@ module _ (q : Root) (some : 1 ≤ q .square .under) (k : ℕ) (e : BetweenMidpoi
             let half : Ratio = ratio (pos 1) 40 in
             let low : AtMost (minus (row-index k) half) (below k) = record { order = diff-le ((nat (k * 40) ⊖ nat 20) ⊗ nat 40) ((nat (2 * k) ⊖ nat 1) ⊗ nat 800) (omega arith) } in
             let high : AtMost (above k) (plus (row-index k) half) = record { order = diff-le (nat _) (nat _) (omega arith) } in
-            let w = near half (omega arith) (up-to-falls (omega arith) low (e .from-below), root-up-to-grows (omega arith) (below-up-to past) high) in
+            let w = near half (omega arith) (up-to-trans (omega arith) low (e .from-below), root-up-to-trans (omega arith) (below-up-to past) high) in
             let clash = lt-diff ((nat (j * 40) ⊖ nat 20) ⊗ nat 40) (nat ((2 * k + 1) * 800)) (across-below (omega arith) (w .0) past .order) in
             absurd (omega arith)
       ]

@@ -63,8 +63,8 @@ module _ (rule : Rule) (column : List ℕ) (a : Totals) (rows : RowRule rule (a 
         high = diff-le (var u ⊕ var l ⊖ nat 10000) (nat 10000) (omega (arith, le-read (upper-in-percent upper .high), le-read (lower-in-percent lower .high)));
       }
 
--- The sides' sum less 100 lies in 0 to 100, and is the PWL: of every lot that is answered, by any rule and column that are what is
--- asked of them.
+-- For every lot that is answered, the sides' sum less 100 lies in 0 to 100, and is the PWL: by any rule that is a `RowRule` and any column that
+-- is a `Column`.
 pub sides-add-up :
     (rule : Rule) (found : Found) (lot : Lot) (p : Percentages) →
     RowRule rule (lot .n) → Column (entries found) →

@@ -1,4 +1,4 @@
--- The sides of one limit add up: where a limit stands on both sides they come to 100 percent, unless all readings are equal.
+-- Where the upper and the lower limit are equal, the two sides add up to 100 percent, unless all readings are equal.
 use mathlib.Core.Path.{_≡_, refl, ap, _∙_, subst, subst⁻¹}
 use mathlib.Core.List.{List}
 use mathlib.Core.Logic.{⊎-elim}
@@ -24,7 +24,7 @@ module _ (rule : Rule) (column : List ℕ) (n : ℕ) (even : EvenRule rule n) (s
   at : (d : ℤ) → reached rule column n v d ≡ entry column (rule n v d)
   at d = reached-entry rule column n v d (lt-ltZ above)
 
-  -- A distance and its opposite reach one entry, and 0 reaches half.
+  -- A distance and its opposite reach the same entry, and distance 0 reaches 50 percent.
   opposite : (d : ℤ) → reached rule column n v (negℤ d) ≡ reached rule column n v d
   opposite d = rw (at d, at (negℤ d)) (ap (entry column) (even .even v d above))
 
@@ -54,13 +54,14 @@ module _ (rule : Rule) (column : List ℕ) (n : ℕ) (even : EvenRule rule n) (s
           (λ out. +ℤ-comm (side rule column n v d) (side rule column n v (negℤ d)) ∙ (rw (negℤ-negℤ d) at (inside-and-out (negℤ d) out)))
           (≤ℤ-total (pos 0) (negℤ d))
 
--- Where the limits are equal and V is above 0, nothing is within them: by a rule that goes by the magnitude of the distance.
-pub one-limit-adds-up :
+-- Where the limits are equal and V is above 0, the two sides add up to 100 percent: by any rule that is an `EvenRule` and any column that is a
+-- `Column`.
+pub equal-limits-add-up :
     (rule : Rule) (column : List ℕ) (a : Totals) (z : Thousandths) →
     EvenRule rule (a .n) → Column column →
     pos 0 <ℤ spread a →
     upper-side rule column a (At z) +ℤ lower-side rule column a (At z) ≡ pos 10000
 unfolding upper-side lower-side upper-distance lower-distance
-one-limit-adds-up rule column a z even shape above =
+equal-limits-add-up rule column a z even shape above =
     subst (λ (d : ℤ). side rule column (a .n) (spread a) (upper-distance a (z .0)) +ℤ side rule column (a .n) (spread a) d ≡ pos 10000)
     (neg--ℤ (pos (a .n) *ℤ z .0) (a .t)) (opposite-sides rule column (a .n) even shape (spread a) above (upper-distance a (z .0)))

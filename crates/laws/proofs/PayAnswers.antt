@@ -1,4 +1,4 @@
--- Factor and pay, of what a caller gets: of any answers that the promises of evaluation and of pay allow.
+-- The laws of factor and pay for what a caller gets: for any answers that the promises of evaluation and of pay allow.
 use mathlib.Core.Path.{_≡_, refl, sym, ap, _∙_}
 use lib.IntN.{ℤ}
 use lib.Signed.{_≤ℤ_}
@@ -48,7 +48,7 @@ unfolding evaluation-says
 wider-payment-is-not-lower lot upper lower p q which x y price quantity a b above below e f g k =
     wider-is-not-paid-less nearest (column-for lot) lot upper lower p q which x y price quantity a b (nearest-row-rule (lot .n)) (answered-has-a-column lot p (sym e)) above below (sym e) (sym f) (sym g) (sym k)
 
--- No limits that are answered bring a refusal of pay where others brought none.
+-- For the PWLs of two pairs of limits that are both answered, pay answers both times, or gives the same refusal both times.
 pub limits-are-answered-alike :
     (lot : Lot) (upper lower : Limit) (p q : Percentages) →
     (which : Characteristic) (other another price quantity : ℤ) (r s : PayAnswer) →
@@ -63,7 +63,7 @@ limits-are-answered-alike lot upper lower p q which x y price quantity r s e f g
     ∙ limits-are-paid-alike nearest (column-for lot) lot upper lower p q which x y price quantity (nearest-row-rule (lot .n)) (answered-has-a-column lot p (sym e)) (sym e) (sym f)
     ∙ sym (ap bare k)
 
--- All three characteristics' limits widened at once never lower the composite or the pay.
+-- Widened limits never lower the PWL; so all three characteristics' limits widened at once never lower the composite or the pay.
 widened-is-not-lower : {pwl wider : ℤ} → Widened pwl wider → pwl ≤ℤ wider
 widened-is-not-lower {pwl} {wider} h =
     let p = h .narrow in

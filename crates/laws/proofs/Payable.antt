@@ -16,7 +16,7 @@ use Rattle.laws.proofs.Between.{inside, not-outside}
 use Rattle.laws.proofs.Ruled.{ruled-none, ruled-passed, ruled-refused, none-met}
 
 module _ (vma voids density price quantity : ℤ) where
-  -- Numbers to which the case does not apply are payable,
+  -- Where refusal 9 does not apply, the numbers are payable,
   case-passed : pay-case vma voids density price quantity .applies ≡ false → Payable vma voids density price quantity
   case-passed e =
       let a : Bool = outside hundred-percent vma in
@@ -36,7 +36,7 @@ module _ (vma voids density price quantity : ℤ) where
   unfolding pay-meets
   payable e = case-passed (none-met (pay-case vma voids density price quantity) [] e .0)
 
-  -- and to payable numbers it does not apply.
+  -- and where they are payable, it does not apply.
   passes : Payable vma voids density price quantity → pay-case vma voids density price quantity .applies ≡ false
   passes h = rw (not-outside (h .percents .vma), not-outside (h .percents .voids), not-outside (h .percents .density), not-outside (h .price), not-outside (h .quantity))
 

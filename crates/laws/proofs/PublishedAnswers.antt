@@ -1,5 +1,5 @@
--- Demand 2 of what a caller gets: of any answers that the promises of `quality::evaluate`, `quality::evaluate_held`, `readings::deviation` and
--- `readings::mean` allow, and of those that C gets.
+-- What a caller gets is what documents 01 and 004 say (demand 2): any answers that the promises of `quality::evaluate`, `quality::evaluate_held`,
+-- `readings::deviation` and `readings::mean` allow, and those that C gets.
 use mathlib.Core.Path.{_≡_, refl, sym}
 use mathlib.Core.List.{List}
 use Prim.Native.Nat.{ℕ}

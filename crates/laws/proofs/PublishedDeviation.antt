@@ -14,12 +14,12 @@ use Rattle.laws.specs.Ratio.{Is}
 use Rattle.laws.specs.Root.{HalfUpRoot}
 use Rattle.laws.specs.PublishedIndex.{published-deviation}
 use Rattle.laws.proofs.Spread.{spread-never-negative}
-use Rattle.laws.proofs.Deviation.{above, below, meets}
+use Rattle.laws.proofs.Deviation.{is-before-midpoint-above, is-from-midpoint-below, deviation-meets-both}
 use Rattle.laws.proofs.Root.{midpoint-up-to, midpoint-above}
 use Rattle.laws.proofs.PublishedIndex.{variance-is}
 
 pub deviation-is-nearest : (xs : List ℤ) → 2 ≤ length xs → HalfUpRoot (published-deviation xs) (deviation-of (length xs) xs)
-deviation-is-nearest xs some = rw (sym whole) (record { low = midpoint-up-to is 2 s (λ h. omega (arith, below n w s h here)); high = midpoint-above is 2 s (omega (arith, above n w s here)) })
+deviation-is-nearest xs some = rw (sym whole) (record { low = midpoint-up-to is 2 s (λ h. omega (arith, is-from-midpoint-below n w s h here)); high = midpoint-above is 2 s (omega (arith, is-before-midpoint-above n w s here)) })
   where
     n : ℕ
     n = length xs
@@ -34,7 +34,7 @@ deviation-is-nearest xs some = rw (sym whole) (record { low = midpoint-up-to is 
     s = deviation n (pos w)
 
     here : T (is-deviation n (pos w) s)
-    here = meets n w some
+    here = deviation-meets-both n w some
 
     is : Is (published-deviation xs .square) (pos w) (n * (n - 1))
     is = rw whole (variance-is xs some)

@@ -1,4 +1,4 @@
--- Documents 01 and 004 say what they say of one answer only: no second percentages are as published for the same readings, limits and column.
+-- Documents 01 and 004 leave one answer only: no second percentages are as published for the same readings, limits and column.
 use mathlib.Core.Path.{_≡_, sym, ap, _∙_}
 use mathlib.Core.List.{List}
 use mathlib.Core.Logic.{⊎-elim}
@@ -45,7 +45,7 @@ published-determined column upper lower xs p q h k =
     let w : p .pwl .0 ≡ q .pwl .0 = h .pwl ∙ (λ i. (u i +ℤ l i) -ℤ pos 10000) ∙ sym (k .pwl) in
     λ i. record { upper = hundredths (u i); lower = hundredths (l i); pwl = hundredths (w i) }
 
--- Nor are any by Table 106-1, whose column for a count is one.
+-- Nor are any by Table 106-1, which has one column for a count.
 pub by-table-determined : (upper lower : Limit) (xs : List ℤ) (p q : Percentages) → ByTable106-1 upper lower xs p → ByTable106-1 upper lower xs q → p ≡ q
 by-table-determined upper lower xs p q h k =
     let same : h .column ≡ k .column = ap entries (sym (h .found) ∙ k .found) in

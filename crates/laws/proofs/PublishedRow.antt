@@ -55,7 +55,7 @@ module _ (xs : List ℤ) (above : pos 0 <ℤ spread (totals (length xs) xs)) (be
         before-above = λ low. midpoint-above squared 40 k (omega (arith, lt-read (rw (square-nat d) at (here .before-above low))));
       }
 
-  -- It is the nearest, and no other is.
+  -- Row k is the row of the rule exactly when it is the nearest.
   pub row-is-nearest : (k : ℕ) → (nearest n v d ≡ k) ↔ NearestRow q k
   row-is-nearest k = (
     found k,

@@ -1,4 +1,4 @@
--- Fractions: their order, which goes by what they come to.
+-- The order of fractions: it is transitive, and depends on their values alone.
 use mathlib.Core.Path.{sym, subst}
 use Prim.Native.Nat.{ℕ, _≤_}
 use native.Mathlib.Nat.{mul-le-mul-right}
@@ -10,7 +10,7 @@ use Rattle.integers.proofs.Order.{*ℤ-cancel-≤, *ℤ-cancel-<}
 use Rattle.laws.specs.Ratio.{Ratio, ratio, Same, Is, AtMost, Less}
 
 module _ {x y z : Ratio} where
-  -- Each order is taken times what is under the third fraction; what is under the second then stands on both sides.
+  -- Each order is multiplied by the number under the fraction that is not in it; the number under y then cancels.
   pub at-most-trans : 1 ≤ y .under → AtMost x y → AtMost y z → AtMost x z
   at-most-trans some h k =
       let first = le-diff (var (x .top) ⊗ nat (y .under)) (var (y .top) ⊗ nat (x .under)) (h .order) in
@@ -33,11 +33,11 @@ module _ {x y z : Ratio} where
             (omega (arith, mul-le-mul-right (z .under) first, mul-le-mul-right (x .under) second)));
       }
 
--- Of one value, neither is above the other.
+-- Of two fractions of one value, neither is above the other.
 pub same-at-most : (x y : Ratio) → Same x y → AtMost x y
 same-at-most x y e = record { order = subst (λ (z : ℤ). (x .top *ℤ pos (y .under)) ≤ℤ z) e (≤ℤ-refl _) }
 
--- A fraction stands to x as it does to what x comes to.
+-- Where x has the value a/u, a fraction that is at most a/u is at most x, and one above a/u is above x.
 module _ {x : Ratio} {a : ℤ} {u : ℕ} (is : Is x a u) where
   to : AtMost x (ratio a u)
   to = same-at-most x (ratio a u) (is .same)
@@ -45,8 +45,8 @@ module _ {x : Ratio} {a : ℤ} {u : ℕ} (is : Is x a u) where
   from : AtMost (ratio a u) x
   from = same-at-most (ratio a u) x (sym (is .same))
 
-  pub is-above : {f : Ratio} → AtMost f (ratio a u) → AtMost f x
-  is-above h = at-most-trans (is .over) h from
+  pub at-most-value : {f : Ratio} → AtMost f (ratio a u) → AtMost f x
+  at-most-value h = at-most-trans (is .over) h from
 
-  pub is-below : {f : Ratio} → Less (ratio a u) f → Less x f
-  is-below h = at-most-less (is .proper) to h
+  pub value-less : {f : Ratio} → Less (ratio a u) f → Less x f
+  value-less h = at-most-less (is .proper) to h

@@ -1,4 +1,5 @@
--- The record's returns, of what a caller gets: of any answers and lent bytes that the promises of `record::read` and `record::write` allow.
+-- A lot that is written reads back as the same lot, and an accepted record is written again as the same bytes, for what a caller gets: for any
+-- answers and lent bytes that the promises of `record::read` and `record::write` allow.
 use mathlib.Core.Path.{_≡_, refl, sym, ap, _∙_}
 use mathlib.Core.List.{List, _++_}
 use Prim.Native.Nat.{ℕ, _≤_}

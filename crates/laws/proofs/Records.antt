@@ -1,4 +1,4 @@
--- A lot and its record, of those that are not refused: the lot of a lot's record is that lot, and the record of a record's lot is that record.
+-- For lots and records that are not refused, `record-of` and `lot-of-record` undo each other.
 use mathlib.Core.Path.{_≡_, refl, ap, _∙_}
 use mathlib.Core.Bool.{Bool, true, false}
 use mathlib.Core.List.{List, [], _∷_, _++_}
@@ -45,17 +45,17 @@ length-record lot =
 
 -- A limit in range is what its four bytes spell.
 limit-of-its-bytes : (z : Thousandths) → out-of-range (At z) ≡ false → four (in-four (z .0)) ≡ z .0
-limit-of-its-bytes z near =
-    let bound = in-range-bound (z .0) (not-false (in-range (z .0)) near) in
+limit-of-its-bytes z all-in-range =
+    let bound = in-range-bound (z .0) (not-false (in-range (z .0)) all-in-range) in
     four-in-four (z .0) (fits-of w32 (omega arith))
 
 module _ (lot : Lot) (size : length (lot .readings) ≡ lot .n) (ok : LotAccepted lot) where
   pub lot-of-its-record : lot-of-record (record-of lot) ≡ lot
   unfolding record-of head-of spell lot-of-record
-  lot-of-its-record = by (lot .upper) (lot .lower) (ok .upper-near) (ok .lower-near)
+  lot-of-its-record = by (lot .upper) (lot .lower) (ok .upper-in-range) (ok .lower-in-range)
     where
       readings : fours (lot .n) (in-fours (lot .readings)) ≡ lot .readings
-      readings = rw (← size) (fours-in-fours (lot .readings) (ok .near))
+      readings = rw (← size) (fours-in-fours (lot .readings) (ok .all-in-range))
 
       by : (upper lower : Limit) → out-of-range upper ≡ false → out-of-range lower ≡ false → lot-of-record (record-of (with-limits upper lower lot)) ≡ with-limits upper lower lot
       by Absent Absent a b = rw readings
@@ -63,7 +63,7 @@ module _ (lot : Lot) (size : length (lot .readings) ≡ lot .n) (ok : LotAccepte
       by (At u) Absent a b = rw (readings, limit-of-its-bytes u a)
       by (At u) (At l) a b = rw (readings, limit-of-its-bytes u a, limit-of-its-bytes l b)
 
-  -- and the record is not refused for its first 13 bytes
+  -- None of refusals 1 to 4 applies to the lot's record.
   pub head-passes : checked (head-meets (record-of lot)) ≡ answers tt
   unfolding record-of head-of spell spelled lot-of-record
   head-passes =
@@ -90,13 +90,13 @@ fields : (bs : List ℕ) → head-size ≤ length bs → part 0 2 bs ++ (version
 fields bs long =
     cc (take-add 2 2 bs, part-two bs 2 (omega arith), take-add 4 4 bs, take-add 8 4 bs, take-suc bs 12 0 (omega arith), take-append-drop head-size bs)
 
--- Four bytes are those of their limit, if they are zero where it is absent.
+-- Four bytes, read as a limit and written again, are the same, if they are zero where the limit is absent.
 bytes-of-its-limit : (present : Bool) (bs : List ℕ) → Bytes bs → length bs ≡ 4 → (present ≡ false → spelled 0 bs ≡ 0) → limit-bytes (limit-of present (four bs)) ≡ bs
 unfolding spell
 bytes-of-its-limit true bs h size none = in-four-four bs h size
 bytes-of-its-limit false bs h size none = rw (size, none refl) at (spell-spelled bs h)
 
--- Flags of two bits are those of the limits that they say are present.
+-- Flags below 4 are the flags that are written for the limits they say are present.
 flags-of-its-limits : (flags : ℕ) (y z : ℤ) → flags < 4 → bit (limit-of (eqb (flags % 2) 1) y) + 2 * bit (limit-of (eqb (flags / 2 % 2) 1) z) ≡ flags
 flags-of-its-limits zero y z h = refl
 flags-of-its-limits (suc zero) y z h = refl

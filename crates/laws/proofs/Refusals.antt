@@ -1,5 +1,5 @@
--- Picking a refusal is what document 01 says. Of any list of cases the first that applies is given, and none exactly when none applies. Of
--- a list that stands in the order of the numbers, which antt computes of each that does, the one given has the lowest number.
+-- A refusal is picked as document 01 says. Of any list of cases the first that applies is given, and none exactly when none applies. Where the
+-- list stands in the order of the numbers, the refusal given has the lowest number of those that apply.
 use mathlib.Core.Path.{_≡_, refl, sym, ap, _∙_}
 use mathlib.Core.Bool.{Bool, true, false, cond, _&&_, true≢false}
 use mathlib.Core.List.{List, [], _∷_, List·Memᴰ, List·Memᴰ·cases-cons, List·Memᴰ·not-nil}
@@ -26,23 +26,23 @@ pub data First (r : Refusal) : List Case → Type 0 where
 abbrev pub NoneApplies : List Case → Type 0
 NoneApplies cases = (c : Case) → List·Memᴰ c cases → c .applies ≡ false
 
-abbrev pub Picked : {A : Type 0} → List Case → Said A → Type 0
-Picked cases (refused r) = First r cases
-Picked cases (answers a) = NoneApplies cases
+abbrev pub FirstGiven : {A : Type 0} → List Case → Said A → Type 0
+FirstGiven cases (refused r) = First r cases
+FirstGiven cases (answers a) = NoneApplies cases
 
 module _ {A : Type 0} where
-  -- one that does not apply changes nothing
-  passed : (c : Case) (cs : List Case) → c .applies ≡ false → (s : Said A) → Picked cs s → Picked (c ∷ cs) s
+  -- a case put in front that does not apply changes nothing
+  passed : (c : Case) (cs : List Case) → c .applies ≡ false → (s : Said A) → FirstGiven cs s → FirstGiven (c ∷ cs) s
   passed c cs off (refused r) p = later off p
   passed c cs off (answers a) p =
       λ d m. ⊎-elim (λ e. ap (λ (x : Case). x .applies) e ∙ off) (λ m′. p d m′) (List·Memᴰ·cases-cons m)
 
-  pub first-is-given : (cases : List Case) (a : A) → Picked cases (ruled cases a)
+  pub first-is-given : (cases : List Case) (a : A) → FirstGiven cases (ruled cases a)
   unfolding ruled
   first-is-given [] a = λ c m. absurd (List·Memᴰ·not-nil m)
   first-is-given (c ∷ cs) a = by (c .applies) refl (first-is-given cs a)
     where
-      by : (b : Bool) → c .applies ≡ b → Picked cs (ruled cs a) → Picked (c ∷ cs) (cond b (refused (c .refusal)) (ruled cs a))
+      by : (b : Bool) → c .applies ≡ b → FirstGiven cs (ruled cs a) → FirstGiven (c ∷ cs) (cond b (refused (c .refusal)) (ruled cs a))
       by true e p = here e refl
       by false e p = passed c cs e (ruled cs a) p
 
@@ -73,14 +73,14 @@ first-is-lowest k (d ∷ cs) r t (later off f) c m on =
     let after : T (rising (number d) cs) = and-r (leb k (number d)) (rising (number d) cs) t in
     ⊎-elim (λ e. absurd (true≢false (sym on ∙ ap (λ (x : Case). x .applies) e ∙ off))) (λ m′. first-is-lowest (number d) cs r after f c m′ on) (List·Memᴰ·cases-cons m)
 
--- So what such a list says is as document 01 has it: a refusal that applies and has the lowest number to do so, or values where none applies.
-abbrev pub Rightly : {A : Type 0} → List Case → Said A → Type 0
-Rightly cases (refused r) = First r cases × Lowest cases r
-Rightly cases (answers a) = NoneApplies cases
+-- So such a list says what document 01 asks: of the refusals that apply the one of the lowest number, or values where none applies.
+abbrev pub LowestGiven : {A : Type 0} → List Case → Said A → Type 0
+LowestGiven cases (refused r) = First r cases × Lowest cases r
+LowestGiven cases (answers a) = NoneApplies cases
 
-pub lowest : {A : Type 0} (k : ℕ) (cases : List Case) (a : A) → T (rising k cases) → Rightly cases (ruled cases a)
+pub lowest : {A : Type 0} (k : ℕ) (cases : List Case) (a : A) → T (rising k cases) → LowestGiven cases (ruled cases a)
 lowest {A} k cases a t = by (ruled cases a) (first-is-given cases a)
   where
-    by : (s : Said A) → Picked cases s → Rightly cases s
+    by : (s : Said A) → FirstGiven cases s → LowestGiven cases s
     by (refused r) f = (f, first-is-lowest k cases r t f)
     by (answers b) none = none

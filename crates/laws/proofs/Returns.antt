@@ -27,7 +27,7 @@ use Rattle.laws.proofs.Spelled.{length-fours}
 use Rattle.laws.proofs.HeadAccepted.{head-accepted}
 use Rattle.laws.proofs.Records.{lot-of-its-record, head-passes, record-of-its-lot}
 
--- Of a record that is read: its first 13 bytes are not refused, its lot is not after its count, and that is the lot.
+-- Where a record is read as a lot: none of refusals 1 to 4 applies to the record, none of 5 to 7 to its lot, and its lot is the one that is read.
 read-parts : (bs : List ℕ) (lot : Lot) → read-says bs ≡ answers lot → HeadAccepted bs × (checked (lot-meets (lot-of-record bs)) ≡ answers tt) × (lot-of-record bs ≡ lot)
 unfolding read-says read-meets
 read-parts bs lot e =
@@ -35,7 +35,7 @@ read-parts bs lot e =
     let parts = none-of-either (head-meets bs) (lot-meets (lot-of-record bs)) (r .0) in
     (head-accepted bs (parts .0), parts .1, r .1)
 
--- The first places of what is held are the readings.
+-- Readings put in the first places of a lot in memory are what those places hold.
 places-back : (xs : List ℤ) (rest : List Thousandths) → take (length xs) (plain (map thousandths xs ++ rest)) ≡ xs
 places-back [] rest = refl
 places-back (x ∷ xs) rest = ap (λ (ys : List ℤ). x ∷ ys) (places-back xs rest)
@@ -52,7 +52,7 @@ written-lot-reads-back lot counted e =
     ∙ ruled-given (lot-meets lot) lot
     ∙ ap (given lot) (none-met (count-case (lot .n)) (lot-meets lot) e .1)
 
--- a lot that was read is no lot that is refused, its readings are as many as it says,
+-- A lot that was read is not refused, and has as many readings as it says,
 pub read-is-accepted : (bs : List ℕ) (lot : Lot) → read-says bs ≡ answers lot → (checked (counted-meets lot) ≡ answers tt) × (length (lot .readings) ≡ lot .n)
 unfolding lot-of-record
 read-is-accepted bs lot e =
@@ -63,7 +63,7 @@ read-is-accepted bs lot e =
       length-fours n (drop head-size bs),
     )
 
--- and it stands in memory as it was read
+-- and it stands in memory as it was read.
 pub read-is-held : (bs : List ℕ) (lot : Lot) → read-says bs ≡ answers lot → lot-in (held (read-says bs)) ≡ lot
 unfolding held
 read-is-held bs lot e =
@@ -111,14 +111,14 @@ pub refused-write-keeps : (lot : Lot) (out : List ℕ) (r : Refusal) → write-s
 unfolding written
 refused-write-keeps lot out r e = ap (written (record-of lot) out) e
 
--- and too little room is refused by 8, of a lot that is not refused itself.
+-- and for a lot that is not refused itself, too little room is refusal 8.
 pub short-room-is-refused : (lot : Lot) (out : List ℕ) → checked (counted-meets lot) ≡ answers tt → length out < length (record-of lot) → write-says lot out ≡ refused Room
 unfolding write-says write-meets
 short-room-is-refused lot out e short = ruled-later (counted-meets lot) _ _ e ∙ ruled-met _ _ _ (lt-ltb (length out) (length (record-of lot)) short)
 
 -- ---- in memory
 
--- What is read stands in as many places as memory has,
+-- After a read, refused or not, the lot in memory has all its places,
 pub read-has-all-places : (bs : List ℕ) → length (held (read-says bs) .readings) ≡ most
 unfolding held
 read-has-all-places bs = by (read-says bs) refl
@@ -136,7 +136,7 @@ read-has-all-places bs = by (read-says bs) refl
           length-append (map thousandths (lot .readings)) (replicate (most - lot .n) (thousandths (pos 0))),
         )
 
--- and what a refused read leaves there is no lot: its count is refused.
+-- and the blank lot that a refused read leaves there is refused for its count.
 pub blank-is-refused : (r : Refusal) (out : List ℕ) → (evaluation-says (lot-in (held (refused r))) ≡ refused Count) × (write-says (lot-in (held (refused r))) out ≡ refused Count)
 unfolding held evaluation-says evaluated evaluation-meets write-says write-meets
 blank-is-refused r out = (ruled-met _ _ _ refl, ruled-met _ _ _ refl)

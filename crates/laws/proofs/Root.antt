@@ -1,4 +1,4 @@
--- The order of fractions and roots: signed squares keep that of fractions, and so the orders of both kinds join.
+-- The order of fractions and roots. Signed squares keep the order of fractions, so that orders between fractions and roots can be joined.
 use mathlib.Core.Path.{_≡_, sym, subst}
 use mathlib.Core.Logic.{_↔_}
 use Prim.Native.Nat.{ℕ, zero, suc, _+_, _-_, _*_, _≤_, _<_}
@@ -11,7 +11,7 @@ use Rattle.integers.proofs.Order.{≤ℤ-antisym, <ℤ→≤ℤ, pos-mono}
 use Rattle.integers.proofs.Square.{signed, signed-≤, signed-<, signed-scaled}
 use Rattle.laws.specs.Ratio.{Ratio, ratio, Same, Is, AtMost, Less}
 use Rattle.laws.specs.Root.{signed-square, Root, UpTo, RootUpTo, RootBelow, HalfUpRoot}
-use Rattle.laws.proofs.Ratio.{at-most-trans, at-most-less, same-at-most, is-above, is-below}
+use Rattle.laws.proofs.Ratio.{at-most-trans, at-most-less, same-at-most, at-most-value, value-less}
 
 -- Squaring, with the sign, keeps the order of fractions.
 module _ (f g : Ratio) where
@@ -35,11 +35,11 @@ module _ (f g : Ratio) where
     λ h. record { order = signed-< (f .top *ℤ pos (g .under)) (g .top *ℤ pos (f .under)) .1 (rw (left, right) (h .order)) },
   )
 
--- Something stands under a square.
+-- If n is above 0, so is n².
 under-square : {n : ℕ} → 1 ≤ n → 1 ≤ n * n
 under-square h = mul-le-mul h h
 
--- So where a root is itself a fraction q, a fraction stands to it as to q.
+-- So where a root x is itself a fraction q, f ≤ x, x ≤ f and x < f say the same as f ≤ q, q ≤ f and q < f.
 module _ (x : Root) (q : Ratio) (proper : 1 ≤ q .under) (some : 1 ≤ x .square .under) (e : Same (x .square) (signed-square q)) (f : Ratio) where
   to : AtMost (x .square) (signed-square q)
   to = same-at-most (x .square) (signed-square q) e
@@ -69,16 +69,16 @@ module _ (x : Root) (q : Ratio) (proper : 1 ≤ q .under) (some : 1 ≤ x .squar
 
 module _ {x : Root} {f g : Ratio} where
   -- f ≤ g ≤ x
-  pub up-to-falls : 1 ≤ g .under → AtMost f g → UpTo g x → UpTo f x
-  up-to-falls some h k = record { squares = at-most-trans (under-square some) (squares-keep-≤ f g .0 h) (k .squares) }
+  pub up-to-trans : 1 ≤ g .under → AtMost f g → UpTo g x → UpTo f x
+  up-to-trans some h k = record { squares = at-most-trans (under-square some) (squares-keep-≤ f g .0 h) (k .squares) }
 
   -- x ≤ f ≤ g
-  pub root-up-to-grows : 1 ≤ f .under → RootUpTo x f → AtMost f g → RootUpTo x g
-  root-up-to-grows some h k = record { squares = at-most-trans (under-square some) (h .squares) (squares-keep-≤ f g .0 k) }
+  pub root-up-to-trans : 1 ≤ f .under → RootUpTo x f → AtMost f g → RootUpTo x g
+  root-up-to-trans some h k = record { squares = at-most-trans (under-square some) (h .squares) (squares-keep-≤ f g .0 k) }
 
   -- f ≤ x ≤ g
-  pub across : 1 ≤ x .square .under → UpTo f x → RootUpTo x g → AtMost f g
-  across some h k = squares-keep-≤ f g .1 (at-most-trans some (h .squares) (k .squares))
+  pub across-root : 1 ≤ x .square .under → UpTo f x → RootUpTo x g → AtMost f g
+  across-root some h k = squares-keep-≤ f g .1 (at-most-trans some (h .squares) (k .squares))
 
   -- f ≤ x < g
   pub across-below : 1 ≤ f .under → UpTo f x → RootBelow x g → Less f g
@@ -89,18 +89,19 @@ below-up-to h = record { squares = record { order = <ℤ→≤ℤ (h .squares .o
 
 -- ---- midpoints
 
--- A root of a/u, and the numbers (2k − 1)/c and (2k + 1)/c, which are halfway from k to its neighbours in (c/2)ths: in squares, times u and c².
+-- The root x of a/u, compared with (2k − 1)/c and (2k + 1)/c, the midpoints between 2k/c and its neighbours (2k − 2)/c and (2k + 2)/c. The
+-- comparison is that of squares, multiplied by u·c².
 module _ {x : Root} {a u : ℕ} (is : Is (x .square) (pos a) u) (c : ℕ) where
   pub midpoint-up-to : (k : ℕ) → (0 < k → (2 * k - 1) * (2 * k - 1) * u ≤ a * (c * c)) → UpTo (ratio (pos (2 * k) -ℤ pos 1) c) x
-  midpoint-up-to zero h = record { squares = is-above is (record { order = diff-le (⊝ nat 1 ⊗ nat u) (nat (a * (c * c))) (omega arith) }) }
+  midpoint-up-to zero h = record { squares = at-most-value is (record { order = diff-le (⊝ nat 1 ⊗ nat u) (nat (a * (c * c))) (omega arith) }) }
   midpoint-up-to (suc k) h =
       let o : ℕ = 2 * suc k - 1 in
       let low : o * o * u ≤ a * (c * c) = h (omega arith) in
       subst (λ (z : ℤ). UpTo (ratio z c) x) (diff-eq (nat o) (nat (2 * suc k) ⊖ nat 1) (omega arith))
-      (record { squares = is-above is (record { order = pos-mono low }) })
+      (record { squares = at-most-value is (record { order = pos-mono low }) })
 
   pub midpoint-above : (k : ℕ) → a * (c * c) < (2 * k + 1) * (2 * k + 1) * u → RootBelow x (ratio (pos (2 * k + 1)) c)
-  midpoint-above k h = record { squares = is-below is (record { order = diff-lt (nat (a * (c * c))) (nat ((2 * k + 1) * (2 * k + 1) * u)) (omega arith) }) }
+  midpoint-above k h = record { squares = value-less is (record { order = diff-lt (nat (a * (c * c))) (nat ((2 * k + 1) * (2 * k + 1) * u)) (omega arith) }) }
 
 -- ---- nearest whole numbers
 

@@ -14,7 +14,7 @@ use Rattle.rules.specs.Table.{last-row}
 use Rattle.rules.specs.Percent.{index-squared, midpoint-squared, admits, nearest}
 use Rattle.laws.proofs.Largest.{largest-at-most, largest-passes, none-above, largest-is, largest-grows}
 
--- Midpoints grow with the row, for V of 0 or more, and the index with the distance.
+-- For V of 0 or more the midpoint never falls as the row grows, and the index never falls as the magnitude of the distance grows.
 midpoints-grow : (n : ℕ) (v : ℤ) → pos 0 ≤ℤ v → (j k : ℕ) → j ≤ k → midpoint-squared n v j ≤ℤ midpoint-squared n v k
 unfolding midpoint-squared
 midpoints-grow n (pos a) h j k low =
@@ -40,29 +40,30 @@ admits-next : (n : ℕ) (v d : ℤ) (k : ℕ) → admits n v d (suc k) ≡ leZ (
 unfolding admits
 admits-next n v d k = rw (eqb·suc-zero k)
 
--- So where a row is admitted, one not above it and with a midpoint not above its own is too, by any index that is not below.
-stays : (n : ℕ) (v d e : ℤ) (j k : ℕ) → j ≤ k → midpoint-squared n v j ≤ℤ midpoint-squared n v k → index-squared n d ≤ℤ index-squared n e → admits n v d k ≡ true → admits n v e j ≡ true
-stays n v d e zero k low m i there = first-admitted n v e
-stays n v d e (suc j) zero low m i there = absurd (omega arith)
-stays n v d e (suc j) (suc k) low m i there =
+-- So let j ≤ k, let the midpoint below j be at most that below k, and the index at distance d at most that at e. If d admits row k, then e admits
+-- row j.
+admits-stays : (n : ℕ) (v d e : ℤ) (j k : ℕ) → j ≤ k → midpoint-squared n v j ≤ℤ midpoint-squared n v k → index-squared n d ≤ℤ index-squared n e → admits n v d k ≡ true → admits n v e j ≡ true
+admits-stays n v d e zero k low m i there = first-admitted n v e
+admits-stays n v d e (suc j) zero low m i there = absurd (omega arith)
+admits-stays n v d e (suc j) (suc k) low m i there =
     let reached : midpoint-squared n v (suc k) ≤ℤ index-squared n d = leZ-true _ _ (sym (admits-next n v d k) ∙ there) in
     admits-next n v e j ∙ le-leZ (≤ℤ-trans m (≤ℤ-trans reached i))
 
--- For V of 0 or more a row is admitted where one above it is.
-pub admits-falls : (n : ℕ) (v d : ℤ) → pos 0 ≤ℤ v → (j k : ℕ) → j ≤ k → admits n v d k ≡ true → admits n v d j ≡ true
-admits-falls n v d h j k low there = stays n v d d j k low (midpoints-grow n v h j k low) (≤ℤ-refl _) there
+-- For V of 0 or more, every row below an admitted row is admitted.
+pub admits-below : (n : ℕ) (v d : ℤ) → pos 0 ≤ℤ v → (j k : ℕ) → j ≤ k → admits n v d k ≡ true → admits n v d j ≡ true
+admits-below n v d h j k low there = admits-stays n v d d j k low (midpoints-grow n v h j k low) (≤ℤ-refl _) there
 
 pub row-at-most : (n : ℕ) (v d : ℤ) → nearest n v d ≤ last-row
 unfolding nearest
 row-at-most n v d = largest-at-most (admits n v d) last-row
 
--- The row is the one that is admitted with the next not admitted.
+-- For V of 0 or more: if row k is admitted, and k is the last row or row k + 1 is not admitted, then k is the row.
 pub row-is : (n : ℕ) (v d : ℤ) → pos 0 ≤ℤ v → (k : ℕ) → k ≤ last-row → admits n v d k ≡ true → (k < last-row → admits n v d (suc k) ≡ false) → nearest n v d ≡ k
 unfolding nearest
-row-is n v d h k low here next = largest-is (admits n v d) (admits-falls n v d h) last-row k low here next
+row-is n v d h k low here next = largest-is (admits n v d) (admits-below n v d h) last-row k low here next
 
--- Document 01 of row k, in its own numbers: the midpoint below it is not above the index, and the midpoint above it is.
--- That it is the row nearest the magnitude of the published index is `row-is-nearest`, PublishedRow.antt.
+-- What document 01 says of row k, in its own numbers: the midpoint below k is not above the index, unless k is 0, and the midpoint above k is,
+-- unless k is 53. Such a row is the one nearest the magnitude of the published index: `row-is-nearest`, PublishedRow.antt.
 pub record Encloses (n : ℕ) (v d : ℤ) (k : ℕ) : Type 0 where
   pub row : k ≤ 53
   pub from-below : (k ≡ 0) ⊎ ((pos ((2 * k - 1) * (2 * k - 1) * n) *ℤ v) ≤ℤ (pos (1600 * (n - 1)) *ℤ (d *ℤ d)))
@@ -106,4 +107,4 @@ row-exactly-when-enclosing n v d h k = (
 pub row-never-falls : (n : ℕ) (v d e : ℤ) → natAbs d ≤ natAbs e → nearest n v d ≤ nearest n v e
 unfolding nearest
 row-never-falls n v d e h =
-    largest-grows (admits n v d) (admits n v e) (λ k there. stays n v d e k k (le-refl k) (≤ℤ-refl _) (index-grows n d e h) there) last-row
+    largest-grows (admits n v d) (admits n v e) (λ k there. admits-stays n v d e k k (le-refl k) (≤ℤ-refl _) (index-grows n d e h) there) last-row

@@ -1,4 +1,4 @@
--- Demand 2 of the notebook's row: of any that the promises of `notebook::row` and `tulpavice_row` allow.
+-- Any row of the notebook that the promises of `notebook::row` and `tulpavice_row` allow is as published (demand 2).
 use mathlib.Core.Path.{_≡_, refl, sym, ap, _∙_}
 use mathlib.Core.List.{List}
 use Prim.Native.Nat.{ℕ, _/_}
@@ -42,7 +42,7 @@ module _ (upper lower : Limit) (bs : List ℕ) where
   abbrev xs : List ℤ
   xs = fours (length bs / 4) bs
 
-  -- A row that is answered is that of a lent list of them, which is not refused.
+  -- A row that is answered is the row of the lot of those numbers, and that lot is not refused.
   row-answered : (row : Row) → row-says upper lower bs ≡ answers row → (checked (counted-meets (lot-of upper lower xs)) ≡ answers tt) × (row-of-lot (lot-of upper lower xs) ≡ row)
   unfolding row-says row-meets
   row-answered row e =

@@ -1,4 +1,4 @@
--- The first case that applies, a case at a time; and whether there is one has nothing to do with the values.
+-- What a list of cases says, a case at a time; and whether a refusal is given does not depend on the values.
 use mathlib.Core.Path.{_≡_, refl, sym, ap, _∙_}
 use mathlib.Core.Bool.{Bool, true, false, cond}
 use mathlib.Core.List.{List, [], _∷_, _++_}
@@ -39,7 +39,7 @@ ruled-given (c ∷ cs) a = by (c .applies) (ruled-given cs a)
     by true later = refl
     by false later = later
 
--- So without their values two that meet the same cases are alike: both answered, or refused alike.
+-- So two that meet the same cases are both answered, or both get the same refusal.
 pub ruled-alike : {A : Type 0} (cases others : List Case) (a b : A) → cases ≡ others → bare (ruled cases a) ≡ bare (ruled others b)
 ruled-alike {A} cases others a b e =
     ap bare (ruled-given cases a) ∙ by a (checked cases) ∙ ap checked e ∙ sym (by b (checked others)) ∙ sym (ap bare (ruled-given others b))
@@ -48,7 +48,7 @@ ruled-alike {A} cases others a b e =
     by x (refused r) = refl
     by x (answers u) = refl
 
--- What is answered are the values, and then no refusal is given.
+-- Where something is answered, it is the values, and no refusal is given.
 pub ruled-answers : {A : Type 0} (cs : List Case) (a b : A) → ruled cs a ≡ answers b → (checked cs ≡ answers tt) × (a ≡ b)
 ruled-answers {A} cs a b e = by (checked cs) (sym (ruled-given cs a) ∙ e)
   where
@@ -60,7 +60,7 @@ ruled-answers {A} cs a b e = by (checked cs) (sym (ruled-given cs a) ∙ e)
     by (refused r) h = absurd (let z : _≡_ {A = ℕ} 0 1 = cc in omega arith)
     by (answers u) h = (refl, ap value h)
 
--- One that is given is given whatever the values are, and where none is, the values are answered.
+-- A refusal that is given is given whatever the values are; and where none is given, the values are answered.
 pub refused-alike : {A B : Type 0} (cs : List Case) (a : A) (b : B) {r : Refusal} → ruled cs a ≡ refused r → ruled cs b ≡ refused r
 refused-alike {A} cs a b {r} e = ruled-given cs b ∙ by (checked cs) (sym (ruled-given cs a) ∙ e)
   where
@@ -71,7 +71,7 @@ refused-alike {A} cs a b {r} e = ruled-given cs b ∙ by (checked cs) (sym (rule
 pub ruled-unrefused : {A : Type 0} (cs : List Case) (a : A) → checked cs ≡ answers tt → ruled cs a ≡ answers a
 ruled-unrefused cs a e = ruled-given cs a ∙ ap (given a) e
 
--- Where none is given, no case applies.
+-- Where no refusal is given, the first case does not apply, and the other cases give none.
 pub none-met : (c : Case) (cs : List Case) → checked (c ∷ cs) ≡ answers tt → (c .applies ≡ false) × (checked cs ≡ answers tt)
 unfolding ruled
 none-met c cs = by (c .applies)
@@ -80,7 +80,7 @@ none-met c cs = by (c .applies)
     by true e = absurd (let z : _≡_ {A = ℕ} 0 1 = cc in omega arith)
     by false e = (refl, e)
 
--- A case is given where what it passes does not hold.
+-- If P holds wherever the first case does not apply, and P does not hold, then that case's refusal is given.
 pub ruled-refused : {A P : Type 0} (c : Case) (cs : List Case) (a : A) → (c .applies ≡ false → P) → ¬ P → ruled (c ∷ cs) a ≡ refused (c .refusal)
 ruled-refused {A} {P} c cs a h not = by (c .applies) refl
   where
@@ -88,7 +88,7 @@ ruled-refused {A} {P} c cs a h not = by (c .applies) refl
     by true e = ruled-met c cs a e
     by false e = absurd (not (h e))
 
--- What the first cases say, and what the later ones do where none of them is given.
+-- The refusal of the first cases, or where they give none, what the later ones say.
 abbrev before : {A : Type 0} → Said A → Said (Unit {0}) → Said A
 before later (refused r) = refused r
 before later (answers u) = later
@@ -102,14 +102,14 @@ ruled-append (c ∷ cs) ds a = by (c .applies) (ruled-append cs ds a)
     by true later = refl
     by false later = later
 
--- Cases one after the other: one that is given among the first is given, and where none is, the later ones decide.
+-- For two lists of cases, one after the other: a refusal of the first list is given, and where it gives none, the second list decides.
 pub ruled-first : {A : Type 0} (cs ds : List Case) (a : A) {r : Refusal} → checked cs ≡ refused r → ruled (cs ++ ds) a ≡ refused r
 ruled-first cs ds a e = ruled-append cs ds a ∙ ap (before (ruled ds a)) e
 
 pub ruled-later : {A : Type 0} (cs ds : List Case) (a : A) → checked cs ≡ answers tt → ruled (cs ++ ds) a ≡ ruled ds a
 ruled-later cs ds a e = ruled-append cs ds a ∙ ap (before (ruled ds a)) e
 
--- and where none is given of all, none is of either part
+-- Where the two lists together give no refusal, neither list gives one.
 pub none-of-either : (cs ds : List Case) → checked (cs ++ ds) ≡ answers tt → (checked cs ≡ answers tt) × (checked ds ≡ answers tt)
 none-of-either cs ds e = by (checked cs) (sym (ruled-append cs ds tt) ∙ e)
   where

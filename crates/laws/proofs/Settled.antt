@@ -1,4 +1,5 @@
--- Pay answers what documents 000 and 01 say of a payment, and they say it of no other: each test decides an order, and nearest is one number.
+-- What documents 000 and 01 say of a payment holds of the one that pay answers, and of no other: a verdict's test decides an order, and a fraction
+-- has one nearest whole number.
 use mathlib.Core.Path.{_≡_, refl, sym}
 use mathlib.Core.Bool.{Bool, true, false, _||_, false≢true}
 use mathlib.Core.Logic.{_⊎_, inl, inr, ⊎-elim, _↔_}

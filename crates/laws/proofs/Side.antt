@@ -1,4 +1,4 @@
--- A side's percentage lies in 0 to 10,000, by any rule for rows and any column.
+-- A side's percentage lies in 0 to 10,000, by any rule for rows that stays in the table and any column that is a `Column`.
 use mathlib.Core.Path.{_≡_, refl}
 use mathlib.Core.Bool.{Bool, true, false, cond}
 use mathlib.Core.List.{List}
@@ -21,8 +21,8 @@ use Rattle.laws.specs.Reached.{reached}
 use Rattle.laws.proofs.Table.{entry-at-most}
 
 -- A number up to 10,000 is a percentage, and so is the rest to 10,000.
-pub itself : (e : ℕ) → e ≤ 10000 → InPercent (pos e)
-itself e h = record { low = pos-mono zero-le; high = pos-mono h }
+pub number-in-percent : (e : ℕ) → e ≤ 10000 → InPercent (pos e)
+number-in-percent e h = record { low = pos-mono zero-le; high = pos-mono h }
 
 rest : (e : ℕ) → e ≤ 10000 → InPercent (hundred-percent -ℤ pos e)
 rest e h =
@@ -47,7 +47,7 @@ module _ (rule : Rule) (column : List ℕ) (n : ℕ) (v d : ℤ) where
       by true e = rw (reached-entry e) (entry-at-most shape (h (ltZ-true _ _ e)))
       by false e = rw (reached-whole e) (le-refl 10000)
 
-  -- The side is what it reaches, and below zero the rest to 10,000.
+  -- The side is what it reaches, or 10,000 less that where its distance is below 0.
   pub side-inside : leZ (pos 0) d ≡ true → side rule column n v d ≡ pos (reached rule column n v d)
   unfolding side reached
   side-inside e = rw e (by (ltZ (pos 0) v))
@@ -71,16 +71,16 @@ module _ (rule : Rule) (column : List ℕ) (n : ℕ) (v d : ℤ) where
       small = reached-at-most h shape
 
       by : (b : Bool) → leZ (pos 0) d ≡ b → InPercent (side rule column n v d)
-      by true e = rw (side-inside e) (itself (reached rule column n v d) small)
+      by true e = rw (side-inside e) (number-in-percent (reached rule column n v d) small)
       by false e = rw (side-outside e) (rest (reached rule column n v d) small)
 
 module _ (rule : Rule) (column : List ℕ) (a : Totals) (rows : (v d : ℤ) → pos 0 <ℤ v → rule (a .n) v d ≤ last-row) (shape : Column column) where
   pub upper-side-in-percent : (upper : Limit) → InPercent (upper-side rule column a upper)
   unfolding upper-side
-  upper-side-in-percent Absent = itself 10000 (le-refl 10000)
+  upper-side-in-percent Absent = number-in-percent 10000 (le-refl 10000)
   upper-side-in-percent (At u) = side-in-percent rule column (a .n) (spread a) (upper-distance a (u .0)) (rows _ _) shape
 
   pub lower-side-in-percent : (lower : Limit) → InPercent (lower-side rule column a lower)
   unfolding lower-side
-  lower-side-in-percent Absent = itself 10000 (le-refl 10000)
+  lower-side-in-percent Absent = number-in-percent 10000 (le-refl 10000)
   lower-side-in-percent (At l) = side-in-percent rule column (a .n) (spread a) (lower-distance a (l .0)) (rows _ _) shape

@@ -1,4 +1,4 @@
--- A number in bytes and back: a number that its bytes can hold is spelled by them, and bytes are those of the number that they spell.
+-- A number in bytes and back: a number below 256^k is what its k bytes spell, and bytes are those of the number that they spell.
 use mathlib.Core.Path.{_≡_, refl, sym, ap, _∙_}
 use mathlib.Core.Bool.{false}
 use mathlib.Core.List.{List, [], _∷_, _++_}
@@ -21,7 +21,7 @@ use Rattle.laws.proofs.Bounds.{reading-bound, rest-in-range}
 
 -- ---- one number
 
--- The bytes before the last k + 1 are those before the last k, less the last of them.
+-- To cut the last k + 1 bytes off a number is to cut the last k off, and then one more.
 div-pow-suc : (x k : ℕ) → x / 256 ^ suc k ≡ x / 256 ^ k / 256
 div-pow-suc x k = rw (pow-suc, div-div-eq-div-mul)
 
@@ -34,13 +34,13 @@ spelled-rest (suc k) x = cc (div-pow-suc x k, div-add-mod (x / 256 ^ k) 256, spe
 pub spelled-spell : (k x : ℕ) → x < 256 ^ k → spelled 0 (spell k x) ≡ x
 spelled-spell k x h = rw (div-eq-of-lt h) at (spelled-rest k x)
 
--- What stands before bytes is what is left of the number without them.
+-- The number that bytes spell after `before`, with those bytes cut off again, is `before`.
 spelled-before : (before : ℕ) (bs : List ℕ) → Bytes bs → spelled before bs / 256 ^ length bs ≡ before
 unfolding spelled
 spelled-before before [] h = div-one before
 spelled-before before (b ∷ bs) (small then h) = rw (div-pow-suc, spelled-before (256 * before + b) bs h) (omega arith)
 
--- Bytes are the last ones of the number that they spell after what stands before them.
+-- Whatever stands before them, bytes are the last bytes of the number that is spelled.
 spell-spelled-after : (before : ℕ) (bs : List ℕ) → Bytes bs → spell (length bs) (spelled before bs) ≡ bs
 unfolding spelled spell
 spell-spelled-after before [] h = refl
@@ -51,7 +51,7 @@ spell-spelled-after before (b ∷ bs) (small then h) =
 pub spell-spelled : (bs : List ℕ) → Bytes bs → spell (length bs) (spelled 0 bs) ≡ bs
 spell-spelled bs = spell-spelled-after 0 bs
 
--- Bytes spell a number that they can hold.
+-- k bytes spell a number below 256^k.
 spelled-below : (bs : List ℕ) → Bytes bs → spelled 0 bs < 256 ^ length bs
 spelled-below bs h = omega (arith, rw (spelled-before 0 bs h) at (lt-div-mul-add {a = spelled 0 bs} (one-le-pow (length bs) 256 (omega arith))))
 
@@ -76,7 +76,7 @@ unfolding in-fours spell
 length-in-fours [] = refl
 length-in-fours (x ∷ xs) = omega (arith, length-in-fours xs)
 
--- readings that are in range
+-- Readings in range, written in bytes and read again, are the same.
 pub fours-in-fours : (xs : List ℤ) → any-out xs ≡ false → fours (length xs) (in-fours xs) ≡ xs
 unfolding fours in-fours spell
 fours-in-fours [] h = refl

@@ -33,7 +33,7 @@ unfoldable pairs : List ℤ → ℕ
 pairs [] = 0
 pairs (x ∷ xs) = gaps x xs + pairs xs
 
--- The gaps of x come to n·x² + Z − 2·x·T, which is what x adds to V.
+-- Over a list with n, T and Z, the gaps of x come to n·x² + Z − 2·x·T, which is what x adds to V.
 gaps-sum : (x : ℤ) (ys : List ℤ) → pos (gaps x ys) ≡ (pos (length ys) *ℤ (x *ℤ x) +ℤ squares ys) -ℤ pos 2 *ℤ (x *ℤ sum ys)
 unfolding gaps squares sum square
 gaps-sum x [] = diff-eq (nat 0) (nat 0 ⊗ (var x ⊗ var x) ⊕ nat 0 ⊖ nat 2 ⊗ (var x ⊗ nat 0)) (omega arith)
@@ -80,7 +80,7 @@ gaps-zero x (w ∷ ys) = (
   λ h. omega (arith, gap-zero x w .1 (h w (List·Memᴰ·head refl)), gaps-zero x ys .1 (λ y m. h y (List·Memᴰ·tail m))),
 )
 
--- Any two readings are equal where the first equals each.
+-- The sum over pairs is 0 exactly when all readings are equal.
 pairs-zero : (xs : List ℤ) → (pairs xs ≡ 0) ↔ AllEqual xs
 unfolding pairs
 pairs-zero [] = (λ e y w m k. absurd (List·Memᴰ·not-nil m), λ h. refl)

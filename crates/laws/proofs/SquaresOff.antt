@@ -32,7 +32,7 @@ off-squares m t (y ∷ ys) =
     one-more (m * m) (2 * m) (length ys) _ _ (y *ℤ y) (squares ys) (t *ℤ t) (t *ℤ y) (t *ℤ sum ys) (off-square m t y) (off-squares m t ys)
     ∙ ap (λ (x : ℤ). (pos (m * m) *ℤ (y *ℤ y +ℤ squares ys) +ℤ pos (suc (length ys)) *ℤ (t *ℤ t)) -ℤ pos (2 * m) *ℤ x) (sym (*ℤ-distrib-l t y (sum ys)))
 
--- With n for m and T for t.
+-- With n for m and T for t the sum is n·V.
 pub off-squares-spread :
     (xs : List ℤ) → sum (map (λ (x : ℤ). (x *ℤ pos (length xs) -ℤ sum xs) *ℤ (x *ℤ pos (length xs) -ℤ sum xs)) xs) ≡ pos (length xs) *ℤ spread (totals (length xs) xs)
 unfolding spread

@@ -1,4 +1,4 @@
--- Table 106-1 is well formed, by one test over all of it that antt computes; and what a well-formed column says at any of its rows.
+-- Table 106-1 is well formed, by one computed test over all of it; and what holds at any row of a well-formed column.
 use mathlib.Core.Path.{_≡_}
 use mathlib.Core.Bool.{Bool, _&&_}
 use mathlib.Core.List.{List, [], _∷_}
@@ -28,7 +28,7 @@ ordered least (x ∷ xs) t (suc j) zero h below = absurd (omega arith)
 ordered least (x ∷ xs) t (suc j) (suc k) h below =
     ordered x xs (and-r (leb least x) (rises-from x xs) t) j k (le-of-suc-le-suc h) (le-of-suc-le-suc below)
 
--- What the test says, at any row.
+-- A well-formed list is a `Column`: it starts at 50.00, ends at 100.00, and falls between no two rows.
 pub column : (xs : List ℕ) → T (well-formed xs) → Column xs
 column xs t =
     let long : Bool = eqb (length xs) (suc last-row) in

@@ -85,7 +85,7 @@ percentages-turned rule column lot =
 
 -- ---- the law
 
--- Values that are swapped are said swapped, and refusals as they are.
+-- To swap the sides of the values is to swap those of what is said; a refusal stays as it is.
 ruled-swapped : (cases : List Case) (p : Percentages) → ruled cases (swapped p) ≡ said-swapped (ruled cases p)
 ruled-swapped cases p = ruled-given cases (swapped p) ∙ by (checked cases) ∙ sym (ap said-swapped (ruled-given cases p))
   where

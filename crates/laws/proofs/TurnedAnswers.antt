@@ -1,5 +1,5 @@
--- Turning about zero swaps the sides, and a refusal stays the same refusal: of what a caller gets, which is any answers that the
--- promises of `quality::evaluate` and `quality::evaluate_held` allow.
+-- Turning about zero swaps the sides, and a refusal stays the same refusal, for what a caller gets: for any answers that the promises of
+-- `quality::evaluate` and `quality::evaluate_held` allow.
 use mathlib.Core.Path.{_≡_, refl, sym, ap, _∙_}
 use mathlib.Core.List.{List, map}
 use lib.IntN.{ℤ, negℤ}

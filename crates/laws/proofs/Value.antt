@@ -1,4 +1,4 @@
--- What a fraction comes to, when its parts come to known ones: sums, differences, products and quotients, with something under each.
+-- The value of a sum, a difference, a product or a quotient of fractions whose values are known; none has 0 under it.
 use mathlib.Core.Path.{_≡_, refl, sym, ap, ap₂, _∙_}
 use mathlib.Core.Logic.{_↔_}
 use mathlib.Core.List.{List, [], _∷_, map}
@@ -20,7 +20,7 @@ use Rattle.laws.specs.PublishedIndex.{total}
 pub is-whole : (z : ℤ) → Is (whole z) z 1
 is-whole z = record { proper = omega arith; over = omega arith; same = refl }
 
--- Another fraction of the same value will do.
+-- If x has the value a/u, and a/u = b/w, then x has the value b/w.
 pub is-also : {x : Ratio} {a b : ℤ} {u w : ℕ} → Is x a u → 1 ≤ w → a *ℤ pos w ≡ b *ℤ pos u → Is x b w
 is-also {x} {a} {b} {u} {w} h some e =
     record {
@@ -36,7 +36,7 @@ is-also {x} {a} {b} {u} {w} h some e =
           )));
     }
 
--- Of fractions over one number the sum is over it too.
+-- If x has the value a/u and y the value b/u, then x + y has the value (a + b)/u, and x − y the value (a − b)/u.
 pub is-plus : {x y : Ratio} {a b : ℤ} {u : ℕ} → Is x a u → Is y b u → Is (plus x y) (a +ℤ b) u
 is-plus {x} {y} {a} {b} {u} h k =
     record {
@@ -87,7 +87,7 @@ above : (c w : ℕ) → 1 ≤ c * w → 1 ≤ c
 above zero w h = absurd (omega arith)
 above (suc c) w h = omega arith
 
--- Over a fraction that is above 0: its top is above 0 too.
+-- The quotient of x and a fraction y above 0: the top of y is not 0, so that x/y does not have 0 under it.
 pub is-quotient : {x y : Ratio} {a : ℤ} {b u w : ℕ} → 1 ≤ b → Is x a u → Is y (pos b) w → Is (quotient x y) (a *ℤ pos w) (u * b)
 is-quotient {x} {y} {a} {b} {u} {w} some h k =
     let c : ℕ = natAbs (y .top) in
@@ -118,7 +118,7 @@ is-magnitude {x} {a} {u} h =
       same = ap pos (sym (natAbs-mul (x .square .top) (pos u)) ∙ ap natAbs (h .same) ∙ natAbs-mul a (pos (x .square .under)));
     }
 
--- Two numbers have one sign where natural multiples of them are equal; so a fraction has that of what it comes to.
+-- If a·u = b·w, and u and w are above 0, then a is below 0 exactly when b is; so a fraction is below 0 exactly when its value is.
 negative : (a b : ℤ) (u w : ℕ) → 1 ≤ u → a *ℤ pos u ≡ b *ℤ pos w → a <ℤ pos 0 → b <ℤ pos 0
 negative a b u w some e h =
     *ℤ-cancel-< w

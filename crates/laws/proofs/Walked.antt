@@ -1,4 +1,5 @@
--- One walk over readings, from the first on: what has been passed is in range, and its totals with those of what is left are those of the whole.
+-- A walk over readings that has passed the first i, with the totals a: some reading is out of range exactly when one of those left is, and a with
+-- the totals of those left gives the totals of all.
 use mathlib.Core.Path.{_≡_, refl, sym, ap, _∙_, subst}
 use mathlib.Core.Bool.{Bool, true, false, cond, not, _||_}
 use mathlib.Core.List.{List, [], _∷_}
@@ -25,7 +26,7 @@ use Rattle.laws.proofs.Bounds.{in-range-bound}
 
 pub record Walked (xs : List ℤ) (i : ℕ) (a : Totals) : Type 0 where
   pub passed : i ≤ length xs
-  pub near : any-out xs ≡ any-out (drop i xs)
+  pub out-among-left : any-out xs ≡ any-out (drop i xs)
   pub count : a .n ≡ length xs
   pub sum : sum xs ≡ a .t +ℤ sum (drop i xs)
   pub squares : squares xs ≡ a .z +ℤ squares (drop i xs)
@@ -36,7 +37,7 @@ pub walk-starts : (xs : List ℤ) {n : ℕ} → n ≡ length xs → Walked xs 0 
 walk-starts xs e =
     record {
       passed = omega arith;
-      near = refl;
+      out-among-left = refl;
       count = e;
       sum = diff-eq (var (sum xs)) (nat 0 ⊕ var (sum xs)) (omega arith);
       squares = diff-eq (var (squares xs)) (nat 0 ⊕ var (squares xs)) (omega arith);
@@ -55,7 +56,7 @@ module _ (xs : List ℤ) (i : ℕ) (here : i < length xs) where
   unfolding any-out
   out-left = ap any-out left
 
-  -- A reading out of range is the whole's,
+  -- A reading out of range is refused, and so is the whole list,
   pub walk-refuses : {a : Totals} {t : TotalsAnswer} {r : Refusal} → Walked xs i a → totals-said t ≡ pass-says a x → t ≡ TotalsAnswer.Refused r → (walk-says xs ≡ refused r) × (any-out xs ≡ true)
   unfolding pass-says walk-says
   walk-refuses {a} {t} {r} w e h = by (in-range x) refl (sym e ∙ ap totals-said h)
@@ -63,10 +64,10 @@ module _ (xs : List ℤ) (i : ℕ) (here : i < length xs) where
       by : (b : Bool) → in-range x ≡ b → cond b (answers (with-reading a x)) (refused Range) ≡ refused r → (walk-says xs ≡ refused r) × (any-out xs ≡ true)
       by true inside f = absurd (let z : _≡_ {A = ℕ} 0 1 = cc in omega arith)
       by false outside f =
-          let out : any-out xs ≡ true = w .near ∙ out-left ∙ ap (λ (b : Bool). not b || any-out (drop (suc i) xs)) outside in
+          let out : any-out xs ≡ true = w .out-among-left ∙ out-left ∙ ap (λ (b : Bool). not b || any-out (drop (suc i) xs)) outside in
           (ruled-met _ _ _ out ∙ f, out)
 
-  -- and one in range is passed, and is in the totals.
+  -- and one in range is passed, and added to the totals.
   passed-on : {a : Totals} → Walked xs i a → in-range x ≡ true → Walked xs (i + 1) (with-reading a x)
   unfolding sum squares
   passed-on {a} w inside =
@@ -76,7 +77,7 @@ module _ (xs : List ℤ) (i : ℕ) (here : i < length xs) where
       subst (λ (k : ℕ). Walked xs k (with-reading a x)) next
       (record {
         passed = here;
-        near = w .near ∙ out-left ∙ ap (λ (b : Bool). not b || any-out rest) inside;
+        out-among-left = w .out-among-left ∙ out-left ∙ ap (λ (b : Bool). not b || any-out rest) inside;
         count = w .count;
         sum =
             w .sum ∙ ap (λ (l : List ℤ). a .t +ℤ sum l) left
@@ -108,5 +109,5 @@ walk-ends xs {i} {a} w end =
     let nothing : drop i xs ≡ [] = ap (λ (k : ℕ). drop k xs) all ∙ drop-length xs in
     let t-same : a .t ≡ sum xs = sym (w .sum ∙ ap (λ (l : List ℤ). a .t +ℤ sum l) nothing ∙ diff-eq (var (a .t) ⊕ nat 0) (var (a .t)) (omega arith)) in
     let z-same : a .z ≡ squares xs = sym (w .squares ∙ ap (λ (l : List ℤ). a .z +ℤ squares l) nothing ∙ diff-eq (var (a .z) ⊕ nat 0) (var (a .z)) (omega arith)) in
-    let near : any-out xs ≡ false = w .near ∙ ap any-out nothing in
-    (near, (λ j. answers (record { n = w .count j; t = t-same j; z = z-same j })) ∙ sym (ruled-passed _ _ _ near ∙ ruled-none _))
+    let all-in-range : any-out xs ≡ false = w .out-among-left ∙ ap any-out nothing in
+    (all-in-range, (λ j. answers (record { n = w .count j; t = t-same j; z = z-same j })) ∙ sym (ruled-passed _ _ _ all-in-range ∙ ruled-none _))

@@ -54,7 +54,7 @@ module _ (rule : Rule) (column : List ℕ) (a : Totals) (rows : RowRule rule (a 
   lower-not-lower (At l) (At w) h = side-never-falls rule column (a .n) rows shape (spread a) _ _ (lower-no-nearer a (l .0) (w .0) h)
 
 -- Wider limits never lower the percentage: the same readings under two pairs of limits that are both answered, the second at least as
--- wide on each side; neither side is lower, nor is the PWL, by any rule and column that are what is asked of them.
+-- wide on each side; neither side is lower, nor is the PWL, by any rule that is a `RowRule` and any column that is a `Column`.
 pub wider-is-not-lower :
     (rule : Rule) (found : Found) (lot : Lot) (upper lower : Limit) (p q : Percentages) →
     RowRule rule (lot .n) → Column (entries found) →

@@ -37,7 +37,7 @@ higher-is-not-paid-less voids pwl higher x y price quantity a b h =
 higher-is-not-paid-less density pwl higher x y price quantity a b h =
     pay-is-not-lower x y pwl x y higher price quantity a b (≤ℤ-refl x) (≤ℤ-refl y) h
 
--- Pay refuses no percentage: it answers for two PWLs alike, or gives the same refusal, which is for another number.
+-- Pay refuses no PWL from 0 to 100 percent: for two of them it answers both times, or gives the same refusal both times, for another number.
 pub percentages-are-paid-alike :
     (which : Characteristic) (pwl pwl′ other another price quantity : ℤ) →
     InPercent pwl → InPercent pwl′ →
@@ -67,7 +67,7 @@ wider-is-not-paid-less rule found lot upper lower p q which x y price quantity a
     let paid = higher-is-not-paid-less which (p .pwl .0) (q .pwl .0) x y price quantity a b h g k in
     (factor-is-not-lower h, paid .0, paid .1)
 
--- No limits that are answered bring a refusal of pay where others brought none.
+-- For the PWLs of two pairs of limits that are both answered, pay answers both times, or gives the same refusal both times.
 pub limits-are-paid-alike :
     (rule : Rule) (found : Found) (lot : Lot) (upper lower : Limit) (p q : Percentages) →
     (which : Characteristic) (other another price quantity : ℤ) →

@@ -21,7 +21,7 @@ fours-at zero bs k h = absurd (omega arith)
 fours-at (suc n) bs zero h = refl
 fours-at (suc n) bs (suc k) h = fours-at n (drop 4 bs) k (le-of-suc-le-suc h) ∙ cc (drop-drop (4 * k) 4 bs, mul-suc 4 k, add-comm 4 (4 * k))
 
--- One more in its place in memory.
+-- With the first i readings in their places in memory, setting place i to the next one gives the first i + 1 in their places.
 pub placed-suc : (i : ℕ) (bs : List ℕ) → i < most → set (in-places i (fours i bs)) i (thousandths (four (part (4 * i) 4 bs))) ≡ in-places (i + 1) (fours (i + 1) bs)
 placed-suc i bs h =
     let x : ℤ = four (part (4 * i) 4 bs) in
@@ -35,7 +35,7 @@ placed-suc i bs h =
     ∙ ap (λ (rs : List Thousandths). rs ++ replicate (most - suc i) zero) (sym (map-append thousandths (fours i bs) (x ∷ [])) ∙ ap (map thousandths) (sym (fours-suc i bs)))
     ∙ ap (λ (k : ℕ). in-places k (fours k bs)) next
 
--- One reading more is written after the others, which stand after the first bytes of a record.
+-- With a record's first 13 bytes and i readings written, writing the next reading after them gives i + 1 readings written.
 pub written-suc :
     (rs : List Thousandths) (first ys : List ℕ) (i : ℕ) → i < length rs → head-size + 4 * i + 4 ≤ length ys →
     take (head-size + 4 * i) ys ≡ first ++ in-fours (take i (plain rs)) →

@@ -1,5 +1,5 @@
--- Demand 2 in the words of documents 01 and 004: of readings and limits in thousandths, and sides, PWL and a column of entries in hundredths of a
--- percent.
+-- What documents 01 and 004 say of an answer (demand 2). Readings and limits are in thousandths; sides, PWL and a column's entries are in hundredths
+-- of a percent.
 use mathlib.Core.Path.{_≡_}
 use mathlib.Core.List.{List}
 use Prim.Native.Nat.{ℕ, _*_}
@@ -18,15 +18,15 @@ use Rattle.laws.specs.AllEqual.{AllEqual}
 use Rattle.laws.specs.PublishedIndex.{published-mean, published-deviation, upper-beyond, lower-beyond, published-index}
 use Rattle.laws.specs.NearestRow.{NearestRow}
 
--- The column's entry at the row nearest the magnitude of the index q, and for q below zero 100 percent less it.
+-- A side looked up by its index q: the column's entry at the row nearest |q|, or 100 percent less that entry where q is below zero.
 pub record LookedUp (column : List ℕ) (q : Root) (side : ℤ) : Type 0 where
   pub row : ℕ
   pub nearest : NearestRow (magnitude q) row
   pub inside : (BelowZero q → ⊥) → side ≡ pos (entry column row)
   pub outside : BelowZero q → side ≡ pos 10000 -ℤ pos (entry column row)
 
--- A side whose limit lies so far beyond the mean: looked up by its index, unless all readings are equal. Those have no index; all or nothing
--- of them is within the limit.
+-- A side, where `beyond` is how far its limit lies beyond the mean, and below 0 if the mean is outside the limit. It is looked up by its index,
+-- unless all readings are equal: these have no index, and their side is 100 percent inside the limit and 0 outside.
 pub record SideAsPublished (column : List ℕ) (beyond : Ratio) (xs : List ℤ) (side : ℤ) : Type 0 where
   pub by-the-table : (AllEqual xs → ⊥) → LookedUp column (published-index beyond xs) side
   pub equal-within : AllEqual xs → pos 0 ≤ℤ beyond .top → side ≡ pos 10000
@@ -47,7 +47,7 @@ pub record AsPublished (column : List ℕ) (upper lower : Limit) (xs : List ℤ)
   pub lower-side : LowerAsPublished column lower xs (p .lower .0)
   pub pwl : p .pwl .0 ≡ (p .upper .0 +ℤ p .lower .0) -ℤ pos 10000
 
--- By Table 106-1: its column for as many readings as there are.
+-- As published, by Table 106-1's column for the number of readings.
 pub record ByTable106-1 (upper lower : Limit) (xs : List ℤ) (p : Percentages) : Type 0 where
   pub column : List ℕ
   pub found : table-106-1 (length xs) ≡ a-column column

@@ -1,4 +1,4 @@
--- All that is asked of a column by whatever is shown of lookups.
+-- What the laws of lookups ask of a column: it starts at 50.00, never falls and ends at 100.00.
 use mathlib.Core.Path.{_≡_}
 use mathlib.Core.List.{List}
 use Prim.Native.Nat.{ℕ, _≤_}

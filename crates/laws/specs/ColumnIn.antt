@@ -1,4 +1,4 @@
--- Bytes that hold a column, as whatever lends one lends it: two to each of its 54 entries.
+-- A column in lent bytes, two to each of its 54 entries: there are 108 bytes, and the entries are a `Column`.
 use mathlib.Core.Path.{_≡_}
 use mathlib.Core.List.{List}
 use Prim.Native.Nat.{ℕ}

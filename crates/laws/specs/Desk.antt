@@ -28,7 +28,7 @@ pub data Example : Type 0 where
 abbrev pub at : ℕ → Limit
 at z = At (thousandths (pos z))
 
--- the number that a host is told
+-- the number of refusal that a host is told, 0 for none
 abbrev pub asked : {A : Type 0} → Said A → ℕ
 asked said = host-refusal said .number
 

@@ -13,14 +13,14 @@ use Rattle.rules.specs.Said.{Said, answers}
 abbrev pub HasAnswer : {A : Type 0} → Said A → Type 0
 HasAnswer {A} said = (a : A) × (said ≡ answers a)
 
--- The refusal is 0 exactly when there is one.
+-- The refusal's number is 0 exactly when there is an answer.
 abbrev pub ZeroWhenAnswered : {A : Type 0} → HostRefusal → Said A → Type 0
 ZeroWhenAnswered part said = (part .number ≡ 0) ↔ HasAnswer said
 
--- C's percentages in their kind
+-- C's plain numbers as percentages in hundredths
 abbrev pub given-percentages : HostPercentages → Percentages
 given-percentages r = record { upper = hundredths (r .upper); lower = hundredths (r .lower); pwl = hundredths (r .pwl) }
 
--- C's row as the doubles that it has
+-- C's row without its refusal: the three doubles
 abbrev pub given-row-of : HostRow → Row
 given-row-of r = record { mean = r .mean; deviation = r .deviation; pwl = r .pwl }

@@ -19,6 +19,6 @@ pub record HeadAccepted (bs : List ℕ) : Type 0 where
   pub least : 2 ≤ n-field bs
   pub few : n-field bs ≤ most
 
--- and what is said of its lot
+-- what is said of the lot of such a record: one of refusals 5 to 7, or the lot
 abbrev pub lot-says : List ℕ → Said Lot
 lot-says bs = ruled (lot-meets (lot-of-record bs)) (lot-of-record bs)

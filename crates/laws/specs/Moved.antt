@@ -29,7 +29,7 @@ moved amount lot =
       readings = moved-readings amount (lot .readings);
     }
 
--- in memory, at all its places
+-- a lot in memory moved so, at all its places
 abbrev pub moved-held : ℤ → HeldLot → HeldLot
 moved-held amount held =
     record {
@@ -39,10 +39,10 @@ moved-held amount held =
       readings = map (λ (x : Thousandths). thousandths (x .0 +ℤ amount)) (held .readings);
     }
 
--- Its readings and present limits are in range: refusal 5 does not apply.
+-- A lot's readings and present limits are in range: refusal 5 does not apply.
 abbrev pub InRange : Lot → Type 0
 InRange lot = range-case (lot .upper) (lot .lower) (lot .readings) .applies ≡ false
 
--- Its readings are as many as it says, if that is no more than a lot can hold.
+-- A lot has as many readings as its count n says, if n is no more than a lot can hold.
 abbrev pub Counted : Lot → Type 0
 Counted lot = lot .n ≤ most → length (lot .readings) ≡ lot .n

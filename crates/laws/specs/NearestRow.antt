@@ -1,4 +1,4 @@
--- The row of the table that is nearest an index of 0 or more, by document 004's section 106.03 K and by distances.
+-- The row of the table nearest an index of 0 or more, said in two ways: by midpoints, as document 004's section 106.03 K does, and by distances.
 use Prim.Native.Nat.{ℕ, _+_, _*_, _≤_, _<_}
 use lib.IntN.{pos, _-ℤ_}
 use Rattle.rules.specs.Table.{last-row}
@@ -11,8 +11,8 @@ row-index k = ratio (pos k) 20
 
 -- ---- by midpoints
 
--- The midpoints below and above row k, (2k − 1)/40 and (2k + 1)/40, enclose the index q: at the lower one it has come to row k, at the upper one to
--- the next. The last row has none above it.
+-- The index q is at or above the midpoint below row k, (2k − 1)/40, and below the midpoint above it, (2k + 1)/40. The last row has no midpoint
+-- above it.
 pub record BetweenMidpoints (q : Root) (k : ℕ) : Type 0 where
   pub in-table : k ≤ last-row
   pub from-below : UpTo (ratio (pos (2 * k) -ℤ pos 1) 40) q
@@ -20,12 +20,12 @@ pub record BetweenMidpoints (q : Root) (k : ℕ) : Type 0 where
 
 -- ---- by distances
 
--- The index lies within a distance d of row k's.
+-- The index q lies within a distance d of row k's index.
 abbrev pub Within : Ratio → Root → ℕ → Type 0
 Within d q k = UpTo (minus (row-index k) d) q × RootUpTo q (plus (row-index k) d)
 
--- Row k is as near as row j: within whatever distance the index lies of row j's, it lies of row k's. Distances that are fractions will do, since
--- there is one between any two numbers.
+-- Row k is at least as near to q as row j: whenever q lies within d of row j's index, it lies within d of row k's. It is enough that d is any
+-- fraction, since there is a fraction between any two numbers.
 abbrev pub AsNear : Root → ℕ → ℕ → Type 0
 AsNear q k j = (d : Ratio) → 1 ≤ d .under → Within d q j → Within d q k
 

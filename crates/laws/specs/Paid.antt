@@ -1,4 +1,4 @@
--- What is paid for the PWL of one characteristic beside those of the other two, which stand in their order.
+-- What is paid where one characteristic has a given PWL; those of the other two come after it, in the order VMA, voids, density.
 use lib.IntN.{ℤ}
 use Rattle.rules.specs.declared.Payment.{Payment}
 use Rattle.rules.specs.Said.{Said}

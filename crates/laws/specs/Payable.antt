@@ -1,4 +1,4 @@
--- What is known of the numbers of pay that are not refused: it keeps their products within 64 bits.
+-- What is known of numbers that pay does not refuse: bounds that keep their products within 64 bits.
 use lib.IntN.{ℤ, pos}
 use Rattle.laws.specs.Between.{Between}
 use Rattle.laws.specs.InPercent.{InPercent}

@@ -31,6 +31,6 @@ upper-beyond usl xs = minus (whole usl) (published-mean xs)
 unfoldable pub lower-beyond : ℤ → List ℤ → Ratio
 lower-beyond lsl xs = minus (published-mean xs) (whole lsl)
 
--- (3) and (4): Q is that over S.
+-- (3) and (4): Q is how far the limit lies beyond the mean, over S.
 abbrev pub published-index : Ratio → List ℤ → Root
 published-index beyond xs = over-root beyond (published-deviation xs)

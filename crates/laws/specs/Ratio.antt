@@ -26,7 +26,7 @@ minus x y = ratio (x .top *ℤ pos (y .under) -ℤ y .top *ℤ pos (x .under)) (
 abbrev pub times : Ratio → Ratio → Ratio
 times x y = ratio (x .top *ℤ y .top) (x .under * y .under)
 
--- over a natural number, and over a fraction that is above 0
+-- x/n for a natural number n above 0, and x/y for a fraction y above 0
 abbrev pub shared : Ratio → ℕ → Ratio
 shared x n = ratio (x .top) (x .under * n)
 
@@ -39,7 +39,7 @@ quotient x y = ratio (x .top *ℤ pos (y .under)) (x .under * natAbs (y .top))
 abbrev pub Same : Ratio → Ratio → Type 0
 Same x y = x .top *ℤ pos (y .under) ≡ y .top *ℤ pos (x .under)
 
--- x comes to a over u, and there is something under both.
+-- x has the value a/u, and neither x nor a/u has 0 under it.
 pub record Is (x : Ratio) (a : ℤ) (u : ℕ) : Type 0 where
   pub proper : 1 ≤ x .under
   pub over : 1 ≤ u
@@ -51,7 +51,7 @@ pub record AtMost (x y : Ratio) : Type 0 where
 pub record Less (x y : Ratio) : Type 0 where
   pub order : (x .top *ℤ pos (y .under)) <ℤ (y .top *ℤ pos (x .under))
 
--- The whole number nearest a fraction, a half going up: z ≤ x + ½ and x < z + ½, both times twice what is under x.
+-- z is the whole number nearest x, a half going up: z ≤ x + ½ and x < z + ½, each multiplied by twice the number under x.
 pub record HalfUp (x : Ratio) (z : ℤ) : Type 0 where
   pub low : (pos 2 *ℤ z *ℤ pos (x .under)) ≤ℤ (pos 2 *ℤ x .top +ℤ pos (x .under))
   pub high : (pos 2 *ℤ x .top) <ℤ (pos 2 *ℤ z *ℤ pos (x .under) +ℤ pos (x .under))

@@ -1,4 +1,5 @@
--- What a side reaches, whichever way its distance points: the entry at its row, and 10,000 where V is 0.
+-- What a side reaches at a distance, inside the limit or outside: the entry at its row where V is above 0, and 10,000 otherwise. Inside, the side
+-- is what it reaches; outside, it is 10,000 less that.
 use mathlib.Core.Bool.{cond}
 use mathlib.Core.List.{List}
 use Prim.Native.Nat.{ℕ}

@@ -1,4 +1,4 @@
--- Numbers that need not be fractions, as a deviation and an index are: roots, each known by its signed square.
+-- Numbers that need not be fractions, such as a deviation or an index: roots, each known by its signed square.
 use Prim.Native.Nat.{_*_}
 use lib.IntN.{ℤ, pos, natAbs, _+ℤ_, _-ℤ_, _*ℤ_}
 use lib.Signed.{_<ℤ_}
@@ -15,8 +15,8 @@ pub record Root : Type 0 where
 abbrev pub root : Ratio → Root
 root x = record { square = x }
 
--- A fraction stands to a root as its signed square does to that of the root: that squares so taken keep the order is `squares-keep-≤` and
--- `squares-keep-<`, laws/proofs/Root.antt.
+-- A fraction and a root are compared by their signed squares. These keep the order of fractions: `squares-keep-≤` and `squares-keep-<`,
+-- laws/proofs/Root.antt.
 
 -- f ≤ x
 pub record UpTo (f : Ratio) (x : Root) : Type 0 where

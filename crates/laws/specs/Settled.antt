@@ -10,7 +10,7 @@ use Rattle.rules.specs.declared.Payment.{Payment}
 use Rattle.laws.specs.Ratio.{ratio, times, HalfUp}
 use Rattle.laws.specs.Published.{published-composite, published-pay}
 
--- rejected exactly when it is so
+-- the verdict is Rejected exactly when `so` holds
 abbrev pub RejectedWhen : Type 0 → Verdict → Type 0
 RejectedWhen so verdict = (verdict ≡ Rejected) ↔ so
 

@@ -6,6 +6,6 @@ use Rattle.rules.specs.declared.Limits.{Limits}
 use Rattle.rules.specs.Refusals.{out-of-range, crossed}
 
 pub record Taken (pair : Limits) : Type 0 where
-  pub upper-near : out-of-range (At (pair .upper)) ≡ false
-  pub lower-near : out-of-range (At (pair .lower)) ≡ false
+  pub upper-in-range : out-of-range (At (pair .upper)) ≡ false
+  pub lower-in-range : out-of-range (At (pair .lower)) ≡ false
   pub uncrossed : crossed (At (pair .upper)) (At (pair .lower)) ≡ false

@@ -1,4 +1,4 @@
--- What is said of n, T and Z on the way to an entry: the totals, or the refusal that is met before there are any.
+-- What the steps before an entry's answer say: the totals n, T and Z, or a refusal.
 use mathlib.Core.Path.{_≡_}
 use mathlib.Core.Bool.{false, cond, _||_}
 use mathlib.Core.List.{List, [], _∷_}
@@ -17,37 +17,37 @@ use Rattle.rules.specs.Percent.{totals}
 use Rattle.rules.specs.Refusals.{out-of-range, any-out, range-case}
 use Rattle.rules.specs.Meets.{readings-meet, limits-meet}
 
--- One reading more; n is what it was.
+-- One reading x more in T and Z; n, the count of all readings, stays.
 abbrev pub with-reading : Totals → ℤ → Totals
 with-reading a x = record { n = a .n; t = x +ℤ a .t; z = x *ℤ x +ℤ a .z }
 
--- It is in range or else 5.
+-- One reading: it is added to the totals, or it is out of range and is refusal 5.
 unfoldable pub pass-says : Totals → ℤ → Said Totals
 pass-says a x = cond (in-range x) (answers (with-reading a x)) (refused Range)
 
--- All readings, of which none is out of range or else 5;
+-- All readings: their totals, or refusal 5 where one is out of range.
 unfoldable pub walk-says : List ℤ → Said Totals
 walk-says xs = ruled (range-case Absent Absent xs ∷ []) (totals (length xs) xs)
 
--- with the readings in their places, which are of use where none is out of range.
+-- Where no reading is out of range, the places of a lot in memory hold the readings, and zeros after them.
 abbrev pub Placed : ℕ → List ℤ → List Thousandths → Type 0
 Placed n xs places = any-out xs ≡ false → places ≡ in-places n xs
 
--- All readings, which are as many as are allowed, or else 4.
+-- All readings, their count first: their totals, or refusal 4 or 5.
 unfoldable pub totals-says : List ℤ → Said Totals
 totals-says xs = ruled (readings-meet xs) (totals (length xs) xs)
 
--- What is said of readings and then of limits that are in range: 6 and 7.
+-- Limits in range, after the readings: the refusal of the readings if there is one, then refusal 6 or 7, else the totals.
 abbrev pub limited-say : Limit → Limit → Said Totals → Said Totals
 limited-say upper lower (refused r) = refused r
 limited-say upper lower (answers a) = ruled (limits-meet upper lower) a
 
--- A limit out of range is 5 before any reading is.
+-- Any limits: refusal 5 where one is out of range, whatever is said of the readings; else as above.
 unfoldable pub with-limits-say : Limit → Limit → Said Totals → Said Totals
 with-limits-say upper lower said =
     cond (out-of-range upper || out-of-range lower) (refused Range) (limited-say upper lower said)
 
--- A lot, by the cases that it is held against.
+-- A lot's totals, and what is said of them: the first refusal that applies of the cases `meets lot`, or the totals.
 abbrev pub lot-totals : Lot → Totals
 lot-totals lot = totals (lot .n) (lot .readings)
 

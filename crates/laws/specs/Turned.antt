@@ -1,4 +1,4 @@
--- A lot turned about zero, and what becomes of what is answered.
+-- A lot turned about zero, and an answer with its sides swapped.
 use mathlib.Core.List.{map}
 use lib.IntN.{negℤ}
 use Rattle.rules.specs.declared.Thousandths.{Thousandths}
@@ -25,7 +25,7 @@ turned lot =
       readings = map negℤ (lot .readings);
     }
 
--- in memory, at all its places
+-- a lot in memory turned so, at all its places
 abbrev pub turned-held : HeldLot → HeldLot
 turned-held held =
     record {

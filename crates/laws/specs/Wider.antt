@@ -1,5 +1,5 @@
--- One limit at least as wide as another: an absent limit is widest, and of two that are present an upper one is not lower, a lower one
--- not higher.
+-- One limit is at least as wide as another: an absent limit is widest; of two present upper limits the wider is not lower, and of two present
+-- lower limits the wider is not higher.
 use mathlib.Core.Path.{_≡_}
 use lib.IntN.{ℤ}
 use lib.Signed.{_≤ℤ_}

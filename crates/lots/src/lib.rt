@@ -33,7 +33,7 @@ pub fn numbers(readings: [Thousandths; MOST]) -> [i32; MOST]
     numbers
 }
 
-// Totals, where limits in range are not refused.
+// The totals as they are given, or the refusal that limits in range meet: 6 or 7.
 fn limited(a: Totals, upper: Limit, lower: Limit) -> TotalsAnswer
     ensures { λ r. ⌜ totals-said r ≡ ruled (limits-meet upper lower) a ⌝ }
 {
@@ -43,7 +43,7 @@ fn limited(a: Totals, upper: Limit, lower: Limit) -> TotalsAnswer
     }
 }
 
-// What a lot can meet after its count, 5 to 7, of what a walk over its readings says and of its limits.
+// What a lot can meet after its count, 5 to 7, by what a walk over its readings says and by its limits; else its totals.
 pub fn met(walked: TotalsAnswer, upper: Limit, lower: Limit) -> TotalsAnswer
     ensures { λ r. ⌜ totals-said r ≡ with-limits-say upper lower (totals-said walked) ⌝ }
 {
@@ -57,7 +57,7 @@ pub fn met(walked: TotalsAnswer, upper: Limit, lower: Limit) -> TotalsAnswer
     }
 }
 
-// What a lent list of readings with two limits meets, 4 to 7, and its totals.
+// The totals of a lent list of readings with two limits, or the refusal that the lot meets: 4 to 7.
 pub fn lent(readings: &[i32], upper: Limit, lower: Limit) -> TotalsAnswer
     ensures { λ r. ⌜ totals-said r ≡ totalled counted-meets (lot-of upper lower (now (readings .entry))) ⌝ }
 {
@@ -68,7 +68,7 @@ pub fn lent(readings: &[i32], upper: Limit, lower: Limit) -> TotalsAnswer
     }
 }
 
-// The same of a lot in memory, whose count may be above what it can hold.
+// The same for a lot in memory, whose count may be above what it can hold.
 pub fn held(lot: HeldLot) -> TotalsAnswer
     ensures { λ r. ⌜ totals-said r ≡ totalled counted-meets (lot-in lot) ⌝ }
 {

@@ -81,7 +81,7 @@ fn pair_out(pair: Pair) -> bool
     !in_range(pair.upper) | !in_range(pair.lower)
 }
 
-// A pair that is in range.
+// The limits of a pair that is in range.
 fn limits(pair: Pair) -> Limits
     requires { ⌜ pair-out pair ≡ false ⌝ }
     ensures { λ r. ⌜ r ≡ limits pair ⌝ }
@@ -92,7 +92,7 @@ fn limits(pair: Pair) -> Limits
     }
 }
 
-// Of a mixture number, a VMA minimum and a voids target: the limits of the three characteristics, or refusal 5 or 9.
+// The limits of the three characteristics, by a mixture number, a VMA minimum and a voids target; or refusal 5 or 9.
 pub fn lookup(mixture: i64, minimum: Thousandths, target: Thousandths) -> MixtureAnswer
     ensures { λ r. ⌜ mixture-said r ≡ mixture-says mixture (minimum .0) (target .0) ⌝ }
 {

@@ -33,18 +33,18 @@ ghost use Rattle.laws.specs.Totalled.{totalled};
 // Each double of a refused lot.
 const REFUSED: f64 = 0.0;
 
-// Four bytes to each of an allowed number of readings.
-fn fits(size: usize) -> bool
+// Whether a size is 4n bytes for an allowed n.
+fn size_fits(size: usize) -> bool
     ensures { λ r. ⌜ r ≡ size-fits size ⌝ }
 {
     (size % 4 == 0) & allowed(size / 4)
 }
 
-// What a lot meets whose readings come as bytes, 4 to 7, and its totals.
+// The totals of a lot whose readings come as bytes, or the refusal that it meets: 4 to 7.
 fn lent(bytes: &[u8], upper: Limit, lower: Limit) -> TotalsAnswer
     ensures { λ r. ⌜ totals-said r ≡ totalled (row-meets (now (bytes .entry))) (lent-lot upper lower (now (bytes .entry))) ⌝ }
 {
-    if fits(bytes.len()) {
+    if size_fits(bytes.len()) {
         let walked = walk(bytes, bytes.len() / 4);
         let said = walked.said;
         met(said, upper, lower)
@@ -76,7 +76,7 @@ fn pwl_of(a: Totals, upper: Limit, lower: Limit) -> f64
     p.pwl.0 as i32 as f64 / 100 as f64
 }
 
-// The row of an accepted lot.
+// The row of a lot, or the refusal that it meets.
 pub fn row(bytes: &[u8], upper: Limit, lower: Limit) -> RowAnswer
     ensures { λ r. ⌜ row-said r ≡ row-says upper lower (now (bytes .entry)) ⌝ }
 {
@@ -90,7 +90,7 @@ pub fn row(bytes: &[u8], upper: Limit, lower: Limit) -> RowAnswer
     }
 }
 
-// The refusal alone, and each double alone: the deviation's search is not run for another's sake.
+// The refusal alone and, below, each double alone: the search for the deviation runs only where the deviation is asked for.
 pub fn refusal(bytes: &[u8], upper: Limit, lower: Limit) -> HostRefusal
     ensures { λ r. ⌜ r ≡ host-refusal (row-says upper lower (now (bytes .entry))) ⌝ }
 {

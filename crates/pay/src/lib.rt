@@ -90,7 +90,7 @@ fn verdict(rejected: bool) -> Verdict
     }
 }
 
-// What is paid, and the verdicts beside it.
+// The composite, the verdicts and the pay, of numbers that pay takes.
 fn paid(
     vma: Hundredths,
     voids: Hundredths,
@@ -115,7 +115,7 @@ fn paid(
     }
 }
 
-// Of the PWLs of the three characteristics, a price a ton and a quantity: composite, verdicts and pay, or refusal 9.
+// Composite, verdicts and pay, by the PWLs of the three characteristics, a price a ton and a quantity; or refusal 9.
 pub fn payment(
     vma: Hundredths,
     voids: Hundredths,

@@ -48,7 +48,8 @@ fn by_column(column: &[u8], a: Totals, upper: Limit, lower: Limit) -> Percentage
     }
 }
 
-// The door: here a column is found, once, for all that is worked out by it. Inner: the entries pass totals and limits of a lot that is not refused.
+// Both sides and PWL, by Table 106-1's column for the count, which is looked up here, once.
+// Inner: the entries pass totals and limits of a lot that is not refused.
 pub fn percentages(a: Totals, upper: Limit, lower: Limit) -> Percentages
     requires { ⌜ Bounded a × (out-of-range upper ≡ false) × (out-of-range lower ≡ false) ⌝ }
     ensures { λ r. ⌜ r ≡ percentages-of nearest (entries (table-106-1 (a .n))) a upper lower ⌝ }

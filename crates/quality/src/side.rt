@@ -81,7 +81,7 @@ pub fn upper_side(column: &[u8], a: Totals, v: u64, upper: Limit) -> Hundredths
     }
 }
 
-// The side of a lower limit. Inner, as the other.
+// The side of a lower limit: 10,000 where it is absent. Inner, as the upper side.
 pub fn lower_side(column: &[u8], a: Totals, v: u64, lower: Limit) -> Hundredths
     requires { ⌜ ColumnIn (now column) × Bounded a × (pos v ≡ spread a) × (out-of-range lower ≡ false) ⌝ }
     ensures { λ r. ⌜ (r .0 ≡ lower-side nearest (column-in (now (column .entry))) a lower) × InPercent (r .0) ⌝ }

@@ -1,6 +1,6 @@
 // Mean and deviation of a lent list of readings, in thousandths, and the totals that they and the lookups are worked out from.
 use refusals::allowed;
-use refusals::near;
+use refusals::in_range_32;
 use rules::DeviationAnswer;
 use rules::Mean;
 use rules::MeanAnswer;
@@ -22,14 +22,14 @@ ghost use Rattle.rules.specs.Entries.{mean-says, deviation-says};
 ghost use Rattle.laws.specs.Totalled.{pass-says, walk-says, totals-says};
 ghost use Rattle.laws.specs.Bounds.{Bounded, SpreadInBounds};
 
-// A number without its sign. Inner: total, but no entry.
+// A number without its sign. Inner: it takes any number, but it is no entry.
 pub fn magnitude(z: i64) -> u64
     ensures { λ r. ⌜ r ≡ natAbs z ⌝ }
 {
     if z < 0 { (-1 - z) as u64 + 1 } else { z as u64 }
 }
 
-// One reading more; n is what it was.
+// T and Z with one reading more; n is the count of all the readings and stays.
 fn step(a: Totals, x: i64) -> Totals
     requires { ⌜ (natAbs x ≤ 500000) × (natAbs (a .t) ≤ most * 500000) × (natAbs (a .z) ≤ most * 250000000000) ⌝ }
     ensures { λ r. ⌜ (r .n ≡ a .n) × (r .t ≡ x +ℤ a .t) × (r .z ≡ x *ℤ x +ℤ a .z) ⌝ }
@@ -46,7 +46,7 @@ pub fn pass(a: Totals, x: i32) -> TotalsAnswer
     requires { ⌜ (natAbs (a .t) ≤ most * 500000) × (natAbs (a .z) ≤ most * 250000000000) ⌝ }
     ensures { λ r. ⌜ totals-said r ≡ pass-says a x ⌝ }
 {
-    if near(x) {
+    if in_range_32(x) {
         TotalsAnswer::Answers(step(a, x as i64))
     } else {
         TotalsAnswer::Refused(Refusal::Range)
@@ -74,7 +74,7 @@ pub fn walk(readings: &[i32]) -> TotalsAnswer
     TotalsAnswer::Answers(a)
 }
 
-// n, T and Z of readings that are not refused: 4 and 5.
+// n, T and Z of readings, or the refusal that they meet: 4 or 5.
 pub fn totals(readings: &[i32]) -> TotalsAnswer
     ensures { λ r. ⌜ totals-said r ≡ totals-says (now (readings .entry)) ⌝ }
 {

@@ -24,7 +24,7 @@ ghost use Rattle.rules.specs.Answers.{outcome-said};
 
 pub const HEAD: usize = 13;
 
-fn length(bytes: &[u8]) -> u32
+fn length_field(bytes: &[u8]) -> u32
     requires { ⌜ head-size ≤ length (now bytes) ⌝ }
     ensures { λ r. ⌜ r ≡ length-field (now (bytes .entry)) ⌝ }
 {
@@ -38,7 +38,7 @@ fn wrong_size(bytes: &[u8]) -> bool
     if bytes.len() < HEAD {
         true
     } else {
-        !(length(bytes) as usize == bytes.len() - 2)
+        !(length_field(bytes) as usize == bytes.len() - 2)
     }
 }
 
@@ -50,7 +50,7 @@ fn wrong_version(bytes: &[u8]) -> bool
     !(bytes[2] == 1)
 }
 
-// Bytes of an absent limit that are not zero. Those of one that is present are not looked at.
+// Whether an absent limit has bytes that are not zero. The bytes of a present limit are not looked at.
 fn stray(present: bool, bytes: &[u8], at: usize) -> bool
     requires { ⌜ at + 4 ≤ length (now bytes) ⌝ }
     ensures { λ r. ⌜ r ≡ not (present || eqb (spelled 0 (part at 4 (now (bytes .entry)))) 0) ⌝ }
@@ -83,7 +83,7 @@ fn wrong_count(bytes: &[u8]) -> bool
     ensures { λ r. ⌜ r ≡ record-count-case (now (bytes .entry)) .applies ⌝ }
 {
     let n = bytes[12];
-    !refusals::allowed(n as usize) | !(length(bytes) == 11 + 4 * n as u32)
+    !refusals::allowed(n as usize) | !(length_field(bytes) == 11 + 4 * n as u32)
 }
 
 // What a record can meet before its lot: 1 to 4.
@@ -121,7 +121,7 @@ pub fn upper(bytes: &[u8]) -> Limit
     limit(bytes[3] % 2 == 1, word(bytes, 4))
 }
 
-// And the lower. Inner, as the upper.
+// The lower limit that a record says it has. Inner, as `upper`.
 pub fn lower(bytes: &[u8]) -> Limit
     requires { ⌜ head-size ≤ length (now bytes) ⌝ }
     ensures { λ r. ⌜ r ≡ lot-of-record (now (bytes .entry)) .lower ⌝ }
@@ -138,7 +138,7 @@ fn bit(limit: Limit) -> u8
     }
 }
 
-// All zero when absent.
+// The four bytes of a limit: all zero when it is absent.
 fn limit_bytes(limit: Limit) -> [u8; 4]
     ensures { λ r. ⌜ r ≡ limit-bytes limit ⌝ }
 {
@@ -148,7 +148,7 @@ fn limit_bytes(limit: Limit) -> [u8; 4]
     }
 }
 
-// The first 13 bytes of the record of a lot that is not refused. Inner: the writer passes the count of one.
+// The first 13 bytes of a record, by the lot's count and limits. Inner: the writer passes those of a lot that is not refused.
 pub fn head_of(n: u32, upper: Limit, lower: Limit) -> [u8; HEAD]
     requires { ⌜ n ≤ most ⌝ }
     ensures { λ r. ⌜ r ≡ head-of n upper lower ⌝ }

@@ -81,7 +81,7 @@ pub fn read(bytes: &[u8]) -> ReadAnswer
     }
 }
 
-// A number's four bytes, from a place on.
+// Writes a number's four bytes from a place on.
 fn put(out: &mut [u8], at: usize, z: i32)
     requires { ⌜ at + 4 ≤ length (now out) ⌝ }
     ensures { λ r. ⌜ now (out .exit) ≡ take at (now (out .entry)) ++ in-four z ++ drop (at + 4) (now (out .entry)) ⌝ }
@@ -93,7 +93,7 @@ fn put(out: &mut [u8], at: usize, z: i32)
     out[at + 3] = four[3];
 }
 
-// The record of a lot that does not say it has more readings than places, in the first bytes of an array.
+// The record of a lot whose count is at most what a lot can hold, in the first bytes of an array.
 fn record_of(lot: HeldLot) -> [u8; LONGEST]
     requires { ⌜ lot .count ≤ most ⌝ }
     ensures { λ r. ⌜ take (head-size + 4 * lot .count) r ≡ record-of (lot-in lot) ⌝ }

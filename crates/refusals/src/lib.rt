@@ -29,8 +29,8 @@ pub fn in_range(z: i64) -> bool
     (-500000 <= z) & (z <= 500000)
 }
 
-// The same of 32 bits, which is all that a reading and a limit have.
-pub fn near(x: i32) -> bool
+// The same range, for a number of 32 bits, as every reading and limit is.
+pub fn in_range_32(x: i32) -> bool
     ensures { λ r. ⌜ r ≡ in-range x ⌝ }
 {
     (-500000 <= x) & (x <= 500000)
@@ -41,7 +41,7 @@ fn out_of_range(limit: Limit) -> bool
 {
     match limit {
         Limit::Absent => false,
-        Limit::At(z) => !near(z.0),
+        Limit::At(z) => !in_range_32(z.0),
     }
 }
 
@@ -102,7 +102,7 @@ fn unpayable(
         | outside(100000000, quantity.0)
 }
 
-// Pay: 9.
+// What pay can meet: 9.
 pub fn pay(
     vma: Hundredths,
     voids: Hundredths,

@@ -1,4 +1,4 @@
--- The paper's refusal or values for each case of each answer.
+-- Each answer as document 01 has it: a refusal, or values.
 use Prim.Native.Nat.{ℕ}
 use Rattle.rules.specs.declared.Thousandths.{Thousandths}
 use Rattle.rules.specs.declared.Totals.{Totals}

@@ -13,15 +13,15 @@ before-midpoint-above n v s = ltZ (pos 4 *ℤ v) (pos ((2 * s + 1) * (2 * s + 1)
 abbrev pub from-midpoint-below : ℕ → ℤ → ℕ → Bool
 from-midpoint-below n v s = eqb s 0 || leZ (pos ((2 * s - 1) * (2 * s - 1) * n * (n - 1))) (pos 4 *ℤ v)
 
--- the whole s with both
+-- whether s is the deviation, rounded: both hold of it
 abbrev pub is-deviation : ℕ → ℤ → ℕ → Bool
 is-deviation n v s = before-midpoint-above n v s && from-midpoint-below n v s
 
--- the first number from s on that passes, of so many as are tried
+-- the first number from s on that passes; where none of so many tries does, the number after them
 unfoldable pub first-from : (ℕ → Bool) → ℕ → ℕ → ℕ
 first-from passes zero s = s
 first-from passes (suc tries) s = elim (passes s) [ true ↦ s | false ↦ first-from passes tries (suc s) ]
 
--- The first such number: there is no other, and it is not above V (laws).
+-- The first number that is the deviation. There is exactly one, and it is not above V (laws).
 unfoldable pub deviation : ℕ → ℤ → ℕ
 deviation n v = first-from (is-deviation n v) (natAbs v) 0

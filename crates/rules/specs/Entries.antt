@@ -1,4 +1,4 @@
--- What each entry says, for whatever comes in: the first refusal that applies of those that it can meet, else its values.
+-- What each entry says, for whatever comes in: of the refusals that it can meet, the first that applies; else its values.
 use mathlib.Core.List.{List, _++_}
 use Prim.Native.Nat.{ℕ}
 use lib.IntN.{ℤ, pos}
@@ -40,7 +40,7 @@ deviation-says xs = ruled (readings-meet xs) (thousandths (deviation-of (length 
 
 -- ---- direct evaluation
 
--- What is found for a lot, at the door of each entry that is asked for a percentage: Table 106-1's column for its count, or none.
+-- What Table 106-1 has for a lot: the column for its count, or none. Only entries look here; the definitions that they use take any column.
 abbrev pub column-for : Lot → Found
 column-for lot = table-106-1 (lot .n)
 
@@ -55,7 +55,7 @@ module _ (rule : Rule) (column : List ℕ) where
   abbrev pub percentages : Lot → Percentages
   percentages lot = percentages-of (totals (lot .n) (lot .readings)) (lot .upper) (lot .lower)
 
--- by a rule for rows, and by what is found for the lot
+-- what direct evaluation says, by any rule for rows and by whatever column is found for the lot
 unfoldable pub evaluated : Rule → Found → Lot → Said Percentages
 evaluated rule found lot = ruled (evaluation-meets lot) (percentages rule (entries found) lot)
 
@@ -67,7 +67,7 @@ evaluation-says lot = evaluated nearest (column-for lot) lot
 unfoldable pub read-says : List ℕ → Said Lot
 read-says bs = ruled (read-meets bs) (lot-of-record bs)
 
--- The lot in memory beside it: zeros in the places past its readings, and one blank lot where the record is refused.
+-- The lot in memory that a read leaves: zeros in the places past its readings, and a blank lot where the record is refused.
 unfoldable pub held : Said Lot → HeldLot
 held (refused r) = record { upper = Absent; lower = Absent; count = 0; readings = replicate most (thousandths (pos 0)) }
 held (answers lot) =
@@ -82,7 +82,7 @@ abbrev pub bare : {A : Type 0} → Said A → Said (Unit {0})
 bare (refused r) = refused r
 bare (answers a) = answers tt
 
--- whether it was read, or the refusal, beside that lot
+-- the refusal, or that there is none, beside that lot in memory
 abbrev pub beside : Said Lot → ReadSaid
 beside said = record { said = bare said; lot = held said }
 
@@ -93,7 +93,7 @@ read-leaves bs = beside (read-says bs)
 unfoldable pub write-says : Lot → List ℕ → Said ℕ
 write-says lot out = ruled (write-meets lot (length out)) (length (record-of lot))
 
--- A lent list after a write: as before where it is refused, else what was to be written and then the old rest.
+-- A lent list after a write: as it was where the write is refused; else what was to be written, and after it the rest as it was.
 unfoldable pub written : {A B : Type 0} → List A → List A → Said B → List A
 written new out (refused r) = out
 written new out (answers b) = new ++ drop (length new) out

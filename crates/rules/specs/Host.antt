@@ -1,5 +1,5 @@
--- In the manner of document 01's notebook, for every other entry: what a host is given in plain numbers. The refusal stands first; of what is
--- refused every other number is 0.
+-- What each entry gives a host, in plain numbers, in the manner of document 01's notebook. The refusal stands first; where an entry refuses,
+-- every other number is 0.
 use mathlib.Core.List.{List, [], _∷_, map}
 use Prim.Native.Nat.{ℕ}
 use lib.IntN.{ℤ, pos}
@@ -104,7 +104,7 @@ given-row upper upper-presence lower lower-presence bs =
 abbrev pub held-limit : HostLimit → Limit
 held-limit l = lent-limit (l .number) (l .presence)
 
--- the lot in memory that a host's numbers are
+-- the lot in memory that a host's numbers stand for
 abbrev pub held-lot : HostLot → HeldLot
 held-lot h =
     record {
@@ -117,7 +117,7 @@ held-lot h =
           h .sixth ∷ h .seventh ∷ h .eighth ∷ h .ninth ∷ h .tenth ∷ []);
     }
 
--- and back
+-- a limit as a host's numbers
 abbrev pub limit-numbers : Limit → HostLimit
 limit-numbers Absent = record { number = pos 0; presence = 0 }
 limit-numbers (At z) = record { number = z .0; presence = 1 }
@@ -148,7 +148,7 @@ abbrev pub host-written : Said ℕ → HostWritten
 host-written (refused r) = record { refusal = refusal-part r; size = 0 }
 host-written (answers size) = record { refusal = no-refusal; size = size }
 
--- The notebook's row in one answer: each double is the one that is asked for by itself.
+-- The notebook's row in one answer: each double is the one that its own call gives.
 abbrev pub host-row : Said Row → HostRow
 host-row said =
     record { refusal = host-refusal said; mean = mean-asked said; deviation = deviation-asked said; pwl = pwl-asked said }

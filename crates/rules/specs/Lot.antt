@@ -1,5 +1,5 @@
--- A lot: its count n, its limits and its readings. They are n in number, but for a lot in memory whose count is above what it can hold,
--- and that is refusal 4.
+-- A lot: its count n, its limits and its readings, which are n in number. Only a lot in memory can have fewer, where its count is above what
+-- it can hold; that is refusal 4.
 use mathlib.Core.List.{List, _++_, map}
 use Prim.Native.Nat.{ℕ, _-_}
 use lib.IntN.{ℤ, pos}
@@ -19,11 +19,11 @@ pub record Lot : Type 0 where
   pub lower : Limit
   pub readings : List ℤ
 
--- of a list of readings, which are as many as they are
+-- the lot of a list of readings: n is their number
 abbrev pub lot-of : Limit → Limit → List ℤ → Lot
 lot-of upper lower xs = record { n = length xs; upper = upper; lower = lower; readings = xs }
 
--- readings as plain numbers, whose kind is understood
+-- readings as plain numbers: thousandths are understood
 abbrev pub plain : List Thousandths → List ℤ
 plain xs = map (λ (x : Thousandths). x .0) xs
 
@@ -34,7 +34,7 @@ places held = plain (held .readings)
 abbrev pub in-places : ℕ → List ℤ → List Thousandths
 in-places n xs = map thousandths xs ++ replicate (most - n) (thousandths (pos 0))
 
--- of a lot in memory, which says how many of its places are its readings
+-- the lot that a lot in memory stands for: its readings are the first `count` places
 abbrev pub lot-in : HeldLot → Lot
 lot-in held =
     record { n = held .count; upper = held .upper; lower = held .lower; readings = take (held .count) (places held) }

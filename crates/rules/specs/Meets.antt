@@ -1,4 +1,4 @@
--- Document 01, "Numbers of refusal": what each entry can meet, in the order in which it is looked for.
+-- Document 01, "Numbers of refusal": the refusals that each entry can meet, in the order in which they are looked for.
 use mathlib.Core.List.{List, [], _∷_, _++_}
 use Prim.Native.Nat.{ℕ}
 use lib.IntN.{ℤ}

@@ -13,7 +13,7 @@ use Rattle.rules.specs.Said.{Said, refused, answers}
 use Rattle.rules.specs.Lot.{Lot}
 use Rattle.rules.specs.Record.{fours, limit-of}
 
--- presence 0 is absent, its number unread; any other is present
+-- a limit given as a number and a presence: absent where the presence is 0, and the number is not read; present where it is any other
 abbrev pub lent-limit : ℤ → ℕ → Limit
 lent-limit z presence = limit-of (not (eqb presence 0)) z
 
@@ -22,7 +22,7 @@ unfoldable pub lent-lot : Limit → Limit → List ℕ → Lot
 lent-lot upper lower bs =
     record { n = length bs / 4; upper = upper; lower = lower; readings = fours (length bs / 4) bs }
 
--- one division of two exactly converted whole numbers
+-- one division of two whole numbers as doubles; those of a lot's row are converted exactly
 abbrev pub over : ℤ → ℕ → Float
 over z m = Ieee.div binary64 (Ieee.ofInt binary64 z) (Ieee.ofInt binary64 (pos m))
 
@@ -30,7 +30,7 @@ over z m = Ieee.div binary64 (Ieee.ofInt binary64 z) (Ieee.ofInt binary64 (pos m
 unfoldable pub row-of : ℤ → ℕ → ℤ → ℤ → Row
 row-of t n s pwl = record { mean = over t (1000 * n); deviation = over s 1000; pwl = over pwl 100 }
 
--- a double, 0 of a refused lot
+-- one double of a row: 0 where the lot is refused
 abbrev pub double-asked : (Row → Float) → Said Row → Float
 double-asked f (refused r) = fin false 0 (pos 0)
 double-asked f (answers row) = f row

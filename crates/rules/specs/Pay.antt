@@ -12,11 +12,11 @@ use Rattle.rules.specs.Units.{composite-of, cents}
 abbrev pub base : ℕ
 base = 53
 
--- the slope, one half: one over
+-- the slope is one over this: one half
 abbrev pub slope-over : ℕ
 slope-over = 2
 
--- the weights of VMA, voids and density
+-- the weights of VMA, voids and density, in tenths
 abbrev pub weight-vma : ℕ
 weight-vma = 3
 
@@ -26,7 +26,7 @@ weight-voids = 3
 abbrev pub weight-density : ℕ
 weight-density = 4
 
--- One characteristic's factor, base and half of PWL, in 200ths of a percent where PWL is in hundredths: 10,600 + PWL.
+-- One characteristic's factor: the base and half of its PWL. In 200ths of a percent, for a PWL in hundredths, that is 10,600 + PWL.
 unfoldable pub factor : ℤ → ℤ
 factor pwl = pos (200 * base) +ℤ pos (200 / (100 * slope-over)) *ℤ pwl
 
@@ -43,7 +43,7 @@ composite w = quotZ (w +ℤ pos 100) (pos 200)
 unfoldable pub final-pay : ℤ → ℤ → ℤ → ℤ
 final-pay price quantity c = quotZ (price *ℤ quantity *ℤ c +ℤ pos 50000) (pos 100000)
 
--- rejected exactly when its PWL is below 5,000
+-- a characteristic is rejected exactly when its PWL is below 5,000
 abbrev pub rejected : ℤ → Bool
 rejected pwl = ltZ pwl (pos 5000)
 

@@ -42,11 +42,11 @@ lower-distance a l = a .t -ℤ pos (a .n) *ℤ l
 unfoldable pub index-squared : ℕ → ℤ → ℤ
 index-squared n d = pos (1600 * (n - 1)) *ℤ (d *ℤ d)
 
--- (2k−1)²·n·V: the square of the midpoint below row k, (2k−1)/40, times the same
+-- (2k−1)²·n·V: the square of the midpoint below row k, (2k−1)/40, times 1600·n·V too
 unfoldable pub midpoint-squared : ℕ → ℤ → ℕ → ℤ
 midpoint-squared n v k = pos ((2 * k - 1) * (2 * k - 1) * n) *ℤ v
 
--- k = 0 or 1600·(n−1)·D² ≥ (2k−1)²·n·V
+-- row k is admitted where the index reaches the midpoint below it: k = 0 or 1600·(n−1)·D² ≥ (2k−1)²·n·V
 unfoldable pub admits : ℕ → ℤ → ℤ → ℕ → Bool
 admits n v d k = eqb k 0 || leZ (midpoint-squared n v k) (index-squared n d)
 
@@ -55,7 +55,7 @@ unfoldable pub largest : (ℕ → Bool) → ℕ → ℕ
 largest passes zero = zero
 largest passes (suc k) = cond (passes (suc k)) (suc k) (largest passes k)
 
--- A rule for rows finds one for n, V and D.
+-- A rule for rows finds a row for n, V and D.
 abbrev pub Rule : Type 0
 Rule = ℕ → ℤ → ℤ → ℕ
 
@@ -64,7 +64,7 @@ unfoldable pub nearest : Rule
 nearest n v d = largest (admits n v d) last-row
 
 module _ (rule : Rule) (column : List ℕ) where
-  -- the percentage of a side, for V above 0 and for V = 0
+  -- The percentage of a side. For V above 0 it is the entry or, where D is below 0, what the entry leaves of 100 percent; for V = 0, all or nothing.
   unfoldable pub side : ℕ → ℤ → ℤ → ℤ
   side n v d =
       let e : ℤ = pos (entry column (rule n v d)) in

@@ -14,7 +14,7 @@ use Rattle.rules.specs.Lot.{Lot}
 
 -- ---- big-endian numbers
 
--- the number that bytes spell, after what went before them
+-- the number that bytes spell, where those before them spell `before`
 unfoldable pub spelled : ℕ → List ℕ → ℕ
 spelled before [] = before
 spelled before (b ∷ bs) = spelled (256 * before + b) bs
@@ -66,7 +66,7 @@ flags-field bs = getD bs 3 0
 abbrev pub has-upper : List ℕ → Bool
 has-upper bs = eqb (flags-field bs % 2) 1
 
--- bit 1 if a lower
+-- bit 1 is set if a lower limit is present
 abbrev pub has-lower : List ℕ → Bool
 has-lower bs = eqb (flags-field bs / 2 % 2) 1
 
@@ -110,7 +110,7 @@ abbrev pub bit : Limit → ℕ
 bit Absent = 0
 bit (At z) = 1
 
--- all zero when absent
+-- the four bytes of a limit: all zero when it is absent
 abbrev pub limit-bytes : Limit → List ℕ
 limit-bytes Absent = replicate 4 0
 limit-bytes (At z) = in-four (z .0)

@@ -17,7 +17,7 @@ use Rattle.rules.specs.Lot.{most}
 use Rattle.rules.specs.Record.{length-field, version-field, flags-field, n-field, upper-field, lower-field, has-upper, has-lower, head-size, length-of, spelled}
 use Rattle.rules.specs.Mixture.{vma-pair, voids-pair}
 
--- its number
+-- the number of a refusal
 abbrev pub number-of : Refusal → ℕ
 number-of Size = 1
 number-of Version = 2
@@ -56,12 +56,12 @@ allowed n = leb 2 n && leb n most
 abbrev pub count-case : ℕ → Case
 count-case n = given-when Count (not (allowed n))
 
--- 4, in a record: or the length isn't 11 + 4n
+-- 4, in a record: n not 2 to 10, or the length isn't 11 + 4n
 abbrev pub record-count-case : List ℕ → Case
 record-count-case bs =
     given-when Count (not (allowed (n-field bs)) || not (eqb (length-field bs) (length-of (n-field bs))))
 
--- four bytes to each of an allowed number of readings
+-- a size fits when it is 4n bytes for an allowed n
 abbrev pub size-fits : ℕ → Bool
 size-fits size = eqb (size % 4) 0 && allowed (size / 4)
 

@@ -1,4 +1,4 @@
--- Document 01, "Numbers of refusal": an entry gives a refusal that applies, and that alone; else its values.
+-- Document 01, "Numbers of refusal": an entry gives one refusal that applies and nothing else, or it gives its values.
 use mathlib.Core.Bool.{Bool, cond}
 use mathlib.Core.List.{List, [], _∷_}
 use Rattle.rules.specs.declared.Refusal.{Refusal}
@@ -12,12 +12,12 @@ pub record Case : Type 0 where
   pub refusal : Refusal
   pub applies : Bool
 
--- The first that applies of those that an entry can meet, in the order in which they are listed; the values where none does.
--- In a list by numbers that is the one of the lowest number (a law).
+-- Of the cases that an entry can meet, the refusal of the first that applies, in the order of the list; where none applies, the values.
+-- In a list ordered by number, that is the refusal of the lowest number that applies (a law).
 unfoldable pub ruled : {A : Type 0} → List Case → A → Said A
 ruled [] a = answers a
 ruled (c ∷ cs) a = cond (c .applies) (refused (c .refusal)) (ruled cs a)
 
--- whether one is given, without values
+-- the refusal, or that there is none, without values
 abbrev pub checked : List Case → Said (Unit {0})
 checked cases = ruled cases tt

@@ -70,7 +70,7 @@ pub data Found : Type 0 where
   no-column : Found
   a-column : List ℕ → Found
 
--- columns n = 2 to 10
+-- the printed table has a column for each n from 2 to 10, and no other
 unfoldable pub table-106-1 : ℕ → Found
 table-106-1 n = cond (leb 2 n && leb n 10) (a-column (map (λ (row : List ℕ). getD row (n - 2) 0) rows)) no-column
 
@@ -87,16 +87,16 @@ entry column k = getD column k 0
 abbrev pub last-row : ℕ
 last-row = 53
 
--- a column in bytes, two to an entry
+-- the column that bytes hold, two to an entry
 unfoldable pub column-in : List ℕ → List ℕ
 column-in bs = twos (suc last-row) bs
 
--- no entry is below the one before it
+-- the first entry is not below `least`, and no other is below the one before it
 abbrev pub rises-from : ℕ → List ℕ → Bool
 rises-from least [] = true
 rises-from least (x ∷ xs) = leb least x && rises-from x xs
 
--- Every column starts at 50.00, never falls downwards and ends at 100.00.
+-- A column is well formed: it has 54 entries, starts at 50.00, never falls from one row to the next and ends at 100.00.
 abbrev pub well-formed : List ℕ → Bool
 well-formed column =
     eqb (length column) (suc last-row)

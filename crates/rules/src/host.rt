@@ -1,5 +1,5 @@
 // What a host in C gives and is given: plain numbers, laid out as C lays them out. Each answer begins with the refusal.
-// A struct that is passed by value holds no array, so a lot has a field for each of its places, which C lays out as it does an array of ten.
+// A struct that is passed by value can hold no array, so a lot has a field for each of its ten places; C lays these out as an array of ten.
 
 // Why there is no answer: the refusal's number, 0 for none.
 #[repr(C)]

@@ -76,7 +76,7 @@ impl Refusal {
     }
 }
 
-// A lot in memory: the first `count` readings are its own. Any numbers may stand here; the entries that take one refuse what is no lot.
+// A lot in memory: its readings are the first `count`. Any numbers may stand in it; an entry that takes one refuses what is no lot.
 pub struct HeldLot {
     pub upper: Limit,
     pub lower: Limit,
@@ -96,7 +96,7 @@ pub enum TotalsAnswer {
     Refused(Refusal),
 }
 
-// What is said where no values are, or where they stand beside it.
+// An answer that holds no values: either there are none, or they stand beside it.
 pub enum Outcome {
     Answers,
     Refused(Refusal),
@@ -135,7 +135,7 @@ pub enum Verdict {
     Rejected,
 }
 
-// The verdict on each characteristic and on the lot, and what is paid either way.
+// The composite, the verdict on each characteristic and on the lot, and the pay, which is given whatever the verdict.
 pub struct Payment {
     pub composite: Composite,
     pub vma: Verdict,
@@ -173,7 +173,7 @@ pub enum MixtureAnswer {
     Refused(Refusal),
 }
 
-// An enum holds no array, so the lot that was read stands beside what is said of it: blank where it is refused.
+// An enum can hold no array, so the lot that was read stands beside the outcome. Where the record is refused the lot is blank.
 pub struct ReadAnswer {
     pub said: Outcome,
     pub lot: HeldLot,
@@ -185,7 +185,7 @@ pub enum WriteAnswer {
     Refused(Refusal),
 }
 
-// The notebook's row of an accepted lot.
+// The notebook's row of a lot that is not refused.
 pub struct Row {
     pub mean: f64,
     pub deviation: f64,

@@ -1,6 +1,6 @@
 // The nine columns of Table 106-1, n = 2 to 10, in hundredths: 54 rows each, from index 0.00 to 2.65, and two bytes to a row, the higher first.
-// A constant is laid out anew wherever it is used, so they stand in three, of which one is used; and in three of different lengths, since those
-// of one length are taken for one that is filled byte by byte.
+// A constant is laid out anew wherever it is used, so the columns stand in three constants, and only the one that is asked for is laid out. The
+// three have different lengths, since constants of one length are taken for one that is filled byte by byte.
 pub const FROM_2: [[u8; 108]; 3] = [
     [
         19,

@@ -13,7 +13,7 @@ ghost use lib.ListN.{length};
 ghost use Rattle.rules.specs.Record.{spelled};
 ghost use Rattle.rules.specs.Table.{table-106-1, entries, entry, column-in};
 
-// The column for n readings. Inner: direct evaluation passes a count that has one.
+// The column for n readings. Inner: `quality::percentages` and the printed table pass a count that has one.
 pub fn column(n: usize) -> [u8; 108]
     requires { ⌜ (2 ≤ n) × (n ≤ 10) ⌝ }
     ensures { λ r. ⌜ column-in r ≡ entries (table-106-1 n) ⌝ }
@@ -39,7 +39,7 @@ fn hundredths(printed: u16) -> Hundredths
     Hundredths(printed as i64)
 }
 
-// The entry of a column at row k. Inner: a side keeps k in range.
+// The entry of a column at row k. Inner: a side and the printed table pass a whole column and keep k in range.
 pub fn entry(column: &[u8], k: usize) -> Hundredths
     requires { ⌜ (length (now column) ≡ 108) × (k ≤ 53) ⌝ }
     ensures { λ r. ⌜ r .0 ≡ pos (entry (column-in (now (column .entry))) k) ⌝ }

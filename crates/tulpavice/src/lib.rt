@@ -1,4 +1,4 @@
-// Every entry, for a host in C: include/tulpavice.h declares them. Thin: what is worked out is worked out below.
+// Every entry, for a host in C; include/tulpavice.h declares them. Each is thin: the crates below work everything out.
 use host::limit;
 use host::lot::held_lot;
 use rules::Cents;

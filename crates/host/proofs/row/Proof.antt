@@ -1,4 +1,4 @@
--- Case by case the doubles are the definition's; of what is refused each is the double without a bit set.
+-- Case by case the doubles are the definition's; where the row is refused each is 0, the double with no bit set.
 use borrow.Author.Needs.{needs}
 use lib.Ieee.{ofBits}
 use Rattle.host.proofs.row.Statement.{statement}

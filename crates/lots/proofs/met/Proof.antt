@@ -36,7 +36,7 @@ limited-requires c κs = search needs
 returns : tie.Need-returns
 returns c = sym (limits-first _ _ _ (sym (c .before .limits-out .ensures) ∙ c .if1 .taken))
 
--- Past the limits: what is said is by what the walk said.
+-- Where no limit is out of range, the answer goes by what the walk said.
 past : (c : tie.Else1) → with-limits-say (c .before .before .args .upper) (c .before .before .args .lower) (totals-said (c .before .before .args .walked)) ≡ limited-say (c .before .before .args .upper) (c .before .before .args .lower) (totals-said (c .before .before .args .walked))
 past c = limits-pass _ _ _ (sym (c .before .limits-out .ensures) ∙ c .if1 .left)
 

@@ -10,7 +10,7 @@ use Rattle.integers.proofs.Magnitude.{natAbs-add, fits-of}
 use Rattle.mixture.proofs.sum.Statement.{statement}
 use Rattle.mixture.proofs.sum.Tie as tie
 
--- the magnitude of a number that fits 32 bits
+-- a number that fits 32 bits has a magnitude below 2³²
 small : {z : ℤ} → SFits w32 z → natAbs z < 2 ^ 32
 small {z} f = let g : Fits w32 (natAbs z) = fits-natAbs tt f in fits-lt-pow g
 

@@ -1,4 +1,4 @@
--- The walk goes over the numbers that bytes of a fitting size spell; another size is refusal 4.
+-- Bytes of a fitting size spell the numbers that the walk goes over; any other size is refusal 4.
 use mathlib.Core.Path.{_≡_, sym, ap, _∙_}
 use mathlib.Core.Bool.{true, not}
 use mathlib.Core.List.{List}
@@ -17,10 +17,10 @@ use Rattle.notebook.proofs.lent.Statement.{statement}
 use Rattle.notebook.proofs.lent.Tie as tie
 
 fitting : (c : tie.Then1) → size-fits (length (c .before .before .before .args .bytes .now)) ≡ true
-fitting c = sym (c .before .fits2 .ensures) ∙ c .if1 .taken
+fitting c = sym (c .before .size-fits .ensures) ∙ c .if1 .taken
 
-fits-requires : tie.Need-fits-requires
-fits-requires c κs = search needs
+size-fits-requires : tie.Need-size-fits-requires
+size-fits-requires c κs = search needs
 
 walk-requires : tie.Need-walk-requires
 walk-requires c κs = (fitting-count (length (c .before .before .before .args .bytes .now)) (fitting c), omega arith)
@@ -40,7 +40,7 @@ returns c =
 
 returns-2 : tie.Need-returns-2
 unfolding totalled row-meets
-returns-2 c = sym (ruled-met _ _ _ (ap not (sym (c .before .fits2 .ensures) ∙ c .if1 .left)))
+returns-2 c = sym (ruled-met _ _ _ (ap not (sym (c .before .size-fits .ensures) ∙ c .if1 .left)))
 
 pub lent-spec : {M : Type 1} → statement M
-lent-spec = tie.close (tie.spec fits-requires walk-requires met-requires returns returns-2)
+lent-spec = tie.close (tie.spec size-fits-requires walk-requires met-requires returns returns-2)

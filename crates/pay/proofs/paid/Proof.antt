@@ -35,7 +35,7 @@ verdict-requires-3 c κs = search needs
 verdict-requires-4 : tie.Need-verdict-requires-4
 verdict-requires-4 c κs = search needs
 
--- the composite that was computed
+-- the composite that is computed is the rules'
 is-composite :
     (c : tie.After-composite) →
     c .composite .result .0 ≡ composite (weighted (c .before .before .args .vma .0) (c .before .before .args .voids .0) (c .before .before .args .density .0))

@@ -34,7 +34,7 @@ totalled c =
 percentages-requires : tie.Need-percentages-requires
 percentages-requires c κs =
     let h = totalled (c .before) in
-    (h .bounded, h .accepted .upper-near, h .accepted .lower-near)
+    (h .bounded, h .accepted .upper-in-range, h .accepted .lower-in-range)
 
 returns : tie.Need-returns
 unfolding evaluation-says

@@ -11,7 +11,7 @@ use Rattle.laws.proofs.ColumnIn.{table-106-1-column-in}
 use Rattle.quality.proofs.percentages.Statement.{statement}
 use Rattle.quality.proofs.percentages.Tie as tie
 
--- Percentages by one column are those by the same.
+-- Equal columns give equal percentages.
 same-column : (rule : Rule) {xs ys : List ℕ} (a : Totals) (upper lower : Limit) → xs ≡ ys → percentages-of rule xs a upper lower ≡ percentages-of rule ys a upper lower
 same-column rule a upper lower e = ap (λ (column : List ℕ). percentages-of rule column a upper lower) e
 

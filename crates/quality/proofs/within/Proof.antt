@@ -1,4 +1,4 @@
--- Two percentages, their sum and what it is above 10,000 fit.
+-- Two percentages, their sum and the sum less 10,000 fit.
 use mathlib.Core.Path.{refl}
 use Prim.Native.Nat.{_≤_}
 use native.Mathlib.Omega.{arith}

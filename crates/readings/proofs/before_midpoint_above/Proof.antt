@@ -8,7 +8,7 @@ use Rattle.rules.specs.Lot.{most}
 use Rattle.readings.proofs.before_midpoint_above.Statement.{statement}
 use Rattle.readings.proofs.before_midpoint_above.Tie as tie
 
--- (2s+1)² and its products, for s up to 10,000,000.
+-- (2s+1)² is at most 20,000,001², for s up to 10,000,000.
 squared : {s : ℕ} → s ≤ 10000000 → (2 * s + 1) * (2 * s + 1) ≤ 20000001 * 20000001
 squared {s} h = let odd : 2 * s + 1 ≤ 20000001 = omega arith in mul-le-mul odd odd
 

@@ -1,4 +1,4 @@
--- A negative number z is below −1 by one less than its magnitude, so neither −1 − z nor the cast nor the sum leaves its width.
+-- For a negative z, −1 − z is one less than the magnitude of z, so the difference, the cast and the sum all fit.
 use mathlib.Core.Path.{_≡_, ap, subst⁻¹, _∙_}
 use mathlib.Core.Bool.{true}
 use Prim.Native.Nat.{_+_}

@@ -15,13 +15,13 @@ use Rattle.laws.proofs.Bounds.{in-range-bound}
 use Rattle.readings.proofs.pass.Statement.{statement}
 use Rattle.readings.proofs.pass.Tie as tie
 
--- A reading widened.
+-- A reading, widened, fits 64 bits.
 widened : (c : tie.Start) → SFits w64 (c .args .x)
 widened c = sfits-widen tt (c .fits .x)
 
--- What the test says of it.
-tested : (c : tie.After-near) → c .near .result ≡ in-range (c .before .args .x)
-tested c = let f = c .before .fits .x in simp toZ-ofZ at (c .near .ensures)
+-- The test answers whether the reading is in range.
+tested : (c : tie.After-in-range-32) → c .in-range-32 .result ≡ in-range (c .before .args .x)
+tested c = let f = c .before .fits .x in simp toZ-ofZ at (c .in-range-32 .ensures)
 
 taken : (a b : Totals) (x : ℤ) → in-range x ≡ true → (b .n ≡ a .n) × (b .t ≡ x +ℤ a .t) × (b .z ≡ x *ℤ x +ℤ a .z) → answers b ≡ pass-says a x
 unfolding pass-says
@@ -31,8 +31,8 @@ left-out : (a : Totals) (x : ℤ) → in-range x ≡ false → refused Range ≡
 unfolding pass-says
 left-out a x e = rw e
 
-near-requires : tie.Need-near-requires
-near-requires c κs = search needs
+in-range-32-requires : tie.Need-in-range-32-requires
+in-range-32-requires c κs = search needs
 
 cast-step : tie.Need-cast-step
 cast-step c = let f = c .before .before .fits .x in simp toZ-ofZ (widened (c .before .before))
@@ -56,4 +56,4 @@ returns-2 c = left-out (c .before .before .args .a) (c .before .before .args .x)
 
 pub pass-spec : {M : Type 1} → statement M
 pass-spec =
-    tie.close (tie.spec near-requires cast-step step-requires returns returns-2)
+    tie.close (tie.spec in-range-32-requires cast-step step-requires returns returns-2)

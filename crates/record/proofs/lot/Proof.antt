@@ -1,4 +1,4 @@
--- The limits and the readings are those of the record's lot, so that what it meets is what they do.
+-- The limits and the readings that are read are those of the record's lot, so they meet what it meets.
 use mathlib.Core.Path.{_≡_, sym, ap, _∙_}
 use mathlib.Core.Bool.{false}
 use mathlib.Core.List.{List}
@@ -17,7 +17,7 @@ use Rattle.rules.specs.Answers.{totals-said}
 use Rattle.rules.specs.Entries.{held, beside}
 use Rattle.laws.specs.Totalled.{walk-says, with-limits-say, lot-totals, totalled}
 use Rattle.laws.proofs.Ruled.{ruled-unrefused, totals-answered, totals-refused}
-use Rattle.laws.proofs.Accepted.{readings-near}
+use Rattle.laws.proofs.Accepted.{readings-in-range}
 use Rattle.laws.proofs.Lots.{walked-with-limits}
 use Rattle.laws.proofs.Spelled.{length-fours}
 use Rattle.record.proofs.lot.Statement.{statement}
@@ -106,9 +106,9 @@ returns-2 c =
     let at = met .before .before in
     let lot : Lot = lot-of-record (bytes at) in
     let unrefused = totals-answered _ _ (met-is met) (c .enum-told .given .1) .0 in
-    let near : any-out (readings at) ≡ false = readings-near lot unrefused in
+    let all-in-range : any-out (readings at) ≡ false = readings-in-range lot unrefused in
     let same = ap (λ (ds : List ℕ). fours (n-field (bytes at)) ds) (rest at) in
-    let places : at .walk .result .readings ≡ in-places (n-field (bytes at)) (readings at) = at .walk .ensures .1 (ap any-out same ∙ near) ∙ ap (in-places (n-field (bytes at))) same in
+    let places : at .walk .result .readings ≡ in-places (n-field (bytes at)) (readings at) = at .walk .ensures .1 (ap any-out same ∙ all-in-range) ∙ ap (in-places (n-field (bytes at))) same in
     (λ i. record { said = answers tt; lot = record { upper = at .before .before .before .upper .ensures i; lower = at .before .before .lower .ensures i; count = n-field (bytes at); readings = places i } })
     ∙ ap beside (sym (ruled-unrefused _ _ unrefused))
 

@@ -1,4 +1,4 @@
--- What the first 13 bytes can meet, and then what their lot can.
+-- What the first 13 bytes can meet comes first, and then what the record's lot can.
 use mathlib.Core.Path.{_≡_, sym, ap, _∙_}
 use borrow.Author.Needs.{needs}
 use Rattle.rules.specs.Said.{answers, checked}

@@ -29,7 +29,7 @@ abbrev μ-loop : tie.MeasureT-loop
 places : (c : tie.Start Inv-loop μ-loop) → length (c .args .lot .readings) ≡ most
 places c = sym (length-map (c .args .lot .readings) _) ∙ c .good .0 .1 .1 .1 .1 .1 .0 .1 .0 .1
 
--- The head stands first in what it is copied into, which is as long as it was.
+-- What the head is copied into keeps its length and begins with the head.
 copied : (head zeros whole : List ℕ) → length head ≡ head-size → head-size ≤ length zeros → whole ≡ take (length head) head ++ drop (length head) zeros → (length whole ≡ length zeros) × (take head-size whole ≡ head)
 copied head zeros whole size room e =
     let all : whole ≡ head ++ drop (length head) zeros = e ∙ ap (λ (bs : List ℕ). bs ++ drop (length head) zeros) (take-length head) in

@@ -1,4 +1,4 @@
--- A refusal leaves the lent bytes as they were; else they are the record and then their old rest.
+-- A refused write leaves the lent bytes as they were; else they are the record, and after it the rest as it was.
 use mathlib.Core.Path.{_≡_, sym, ap, _∙_}
 use mathlib.Core.List.{List, _++_}
 use Prim.Native.Nat.{ℕ, _+_, _*_, _≤_, _<_}
@@ -37,7 +37,7 @@ unrefused c = totals-answered _ _ (c .before .before .held .ensures) (c .enum-to
 accepted : (c : tie.After-enum-told) → LotAccepted (lot-in (c .before .before .before .before .args .lot))
 accepted c = lot-accepted _ (unrefused c)
 
--- A refused write, whichever the refusal.
+-- A refused write, by whichever refusal, gives that refusal and leaves the lent bytes as they were.
 refused-write : (lot : Lot) (out : List ℕ) {r : Refusal} → write-says lot out ≡ refused r → (refused r ≡ write-says lot out) × (out ≡ after-write lot out)
 refused-write lot out {r} e = (sym e, sym (refused-write-keeps lot out r e))
 

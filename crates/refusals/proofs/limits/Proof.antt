@@ -15,7 +15,7 @@ use Rattle.rules.specs.Meets.{limits-meet}
 use Rattle.refusals.proofs.limits.Statement.{statement}
 use Rattle.refusals.proofs.limits.Tie as tie
 
--- What two limits meet, which are these.
+-- Two limits that are u and l meet what u and l meet.
 met : {u l : Limit} (upper lower : Limit) → upper ≡ u → lower ≡ l → {s : Said (Unit {0})} → s ≡ checked (limits-meet u l) → s ≡ checked (limits-meet upper lower)
 met upper lower e f h = h ∙ sym (ap₂ (λ (a b : Limit). checked (limits-meet a b)) e f)
 

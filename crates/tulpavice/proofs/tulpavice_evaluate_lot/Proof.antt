@@ -1,4 +1,4 @@
--- The lot in memory is that of the host's numbers; what is said of it, in plain numbers.
+-- The lot in memory is that of the host's numbers; its evaluation is given in plain numbers.
 use mathlib.Core.Path.{ap, _∙_}
 use borrow.Author.Needs.{needs}
 use Rattle.rules.specs.declared.HeldLot.{HeldLot}

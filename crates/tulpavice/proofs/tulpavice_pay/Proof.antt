@@ -1,4 +1,4 @@
--- What is said of the numbers, which fit, in plain numbers.
+-- The numbers that come in fit; what is said of them is given in plain numbers.
 use mathlib.Core.Path.{ap, _∙_}
 use borrow.Author.Needs.{needs}
 use mir.Facts.{toZ-ofZ}

@@ -1,4 +1,4 @@
--- The two limits are those of their numbers and presences; the row that is said then, in plain numbers.
+-- The two limits are those of their numbers and presences; the row with them is given in plain numbers.
 use mathlib.Core.Path.{_≡_, ap, _∙_}
 use borrow.Author.Needs.{needs}
 use mir.Facts.{toZ-ofZ}

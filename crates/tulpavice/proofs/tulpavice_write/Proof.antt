@@ -1,4 +1,4 @@
--- The lot in memory is that of the host's numbers; what is said of it, in plain numbers, and the lent slice is what the writer leaves.
+-- The lot in memory is that of the host's numbers; what is said of it is given in plain numbers, and the lent slice is as the writer leaves it.
 use mathlib.Core.Path.{ap, _∙_}
 use borrow.Author.Needs.{needs}
 use Rattle.rules.specs.declared.HeldLot.{HeldLot}

@@ -1,4 +1,4 @@
--- From 2³¹ on, x stands for −1 less what x lacks to 2³² − 1, and that is below 2³¹.
+-- From 2³¹ on, x stands for −1 − (2³² − 1 − x), and the difference in brackets is below 2³¹.
 use mathlib.Core.Path.{_≡_, sym, ap, subst⁻¹, _∙_}
 use Prim.Native.Nat.{ℕ, suc, _-_, _^_, _≤_}
 use native.Mathlib.Omega.{arith}

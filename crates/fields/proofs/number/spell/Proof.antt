@@ -1,4 +1,4 @@
--- The last byte is what is left of x itself.
+-- The definition divides by 1 for the last byte, and that leaves x as it is.
 use native.Mathlib.Nat.{div-one}
 use borrow.Author.Needs.{needs}
 use Rattle.rules.specs.Record.{spell}

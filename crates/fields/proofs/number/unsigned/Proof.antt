@@ -1,4 +1,4 @@
--- A negative number z lacks to 2³² what it is below zero: −1 − z is taken from 2³² − 1.
+-- A negative z has the bits of 2³² + z, which is (2³² − 1) − (−1 − z).
 use mathlib.Core.Path.{_≡_, refl, ap, _∙_}
 use mathlib.Core.Bool.{true}
 use Prim.Native.Nat.{_-_}

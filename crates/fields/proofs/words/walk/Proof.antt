@@ -1,4 +1,4 @@
--- The loop has the totals of the readings before i, of which none is out of range, and these in their places with zeros after them.
+-- The loop has the totals of the readings before i, none of which is out of range; they stand in their places, with zeros after them.
 use mathlib.Core.Path.{_≡_, refl, sym, ap, ap₂, _∙_}
 use mathlib.Core.Bool.{true≢false}
 use mathlib.Core.List.{List}
@@ -38,7 +38,7 @@ loop-holds c = (walk-starts (fours (c .before .args .n) (c .before .args .bytes 
 reading-requires : tie.Need-reading-requires Inv-loop μ-loop
 reading-requires c κs = omega arith
 
--- The readings, which of them is reached, and that it is what was read.
+-- The readings; the one at i is among them, and it is what was read.
 module _ (c : tie.After-reading Inv-loop μ-loop) where
   abbrev at : tie.At-loop Inv-loop μ-loop
   at = c .before .before

@@ -1,4 +1,4 @@
--- The limit of the two numbers, of which the first fits.
+-- The limit of the number and the presence; the number fits.
 use borrow.Author.Needs.{needs, sfits-of}
 use mir.Facts.{toZ-ofZ}
 use Rattle.host.proofs.lot.held_limit.Statement.{statement}

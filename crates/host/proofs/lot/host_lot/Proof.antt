@@ -1,4 +1,4 @@
--- The limits are their numbers, and each place that is copied fits and is the lot's.
+-- The limits are given as their numbers; each place that is copied fits and is the lot's.
 use borrow.Author.Needs.{needs, sfits-of}
 use mir.Facts.{toZ-ofZ}
 use Rattle.rules.specs.Host.{host-lot}

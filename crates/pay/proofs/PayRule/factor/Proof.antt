@@ -1,4 +1,4 @@
--- The PWL, what it counts and the sum fit.
+-- The PWL, what it adds to the base and the sum fit.
 use mathlib.Core.Path.{refl}
 use Prim.Native.Nat.{ℕ, _*_, _≤_}
 use native.Mathlib.Omega.{arith}
@@ -14,7 +14,7 @@ use Rattle.laws.proofs.Between.{between-magnitude}
 use Rattle.pay.proofs.PayRule.factor.Statement.{statement}
 use Rattle.pay.proofs.PayRule.factor.Tie as tie
 
--- the base in 200ths, and what a hundredth of PWL counts
+-- in 200ths of a percent: the base, and what each hundredth of PWL adds to it
 abbrev base-part : ℕ
 base-part = 10600
 

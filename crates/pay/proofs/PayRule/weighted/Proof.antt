@@ -34,7 +34,7 @@ record Fits (a b c : ℤ) : Type 0 where
   two : SFits w64 (pos of-vma *ℤ a +ℤ pos of-voids *ℤ b)
   three : SFits w64 (pos of-vma *ℤ a +ℤ pos of-voids *ℤ b +ℤ pos of-density *ℤ c)
 
--- a factor of a PWL
+-- the factor of a PWL is at most 20,600
 small : {pwl z : ℤ} → InPercent pwl → z ≡ factor pwl → natAbs z ≤ 20600
 small h e = rw e (between-magnitude (factor-lies-between h))
 

@@ -15,7 +15,7 @@ use Rattle.laws.proofs.Row.{index-by-magnitude}
 use Rattle.quality.proofs.row.admits.Statement.{statement}
 use Rattle.quality.proofs.row.admits.Tie as tie
 
--- (2k−1)², up to row 53
+-- (2k−1)² is at most 105², up to row 53
 odd-squared : {k : ℕ} → k ≤ 53 → (2 * k - 1) * (2 * k - 1) ≤ 105 * 105
 odd-squared {k} h = let odd : 2 * k - 1 ≤ 105 = omega arith in mul-le-mul odd odd
 

@@ -13,7 +13,7 @@ use Rattle.rules.specs.Lot.{most}
 use Rattle.rules.specs.Table.{column-in}
 use Rattle.rules.specs.Percent.{lower-distance, side, lower-side}
 use Rattle.laws.proofs.Bounds.{total-bound, spread-in-bounds, limit-bound}
-use Rattle.laws.proofs.Side.{itself}
+use Rattle.laws.proofs.Side.{number-in-percent}
 use Rattle.quality.proofs.side.lower_side.Statement.{statement}
 use Rattle.quality.proofs.side.lower_side.Tie as tie
 
@@ -38,7 +38,7 @@ side-between-requires c κs =
 
 returns : tie.Need-returns
 unfolding lower-side
-returns c = (simp (c .enum-told .given .1), itself 10000 (le-refl 10000))
+returns c = (simp (c .enum-told .given .1), number-in-percent 10000 (le-refl 10000))
 
 returns-2 : tie.Need-returns-2
 unfolding lower-distance lower-side

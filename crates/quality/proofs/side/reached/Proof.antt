@@ -1,4 +1,4 @@
--- V of 0 reaches 10,000, any other the entry at the row.
+-- Where V is 0 the side reaches 10,000, else the entry at the row.
 use mathlib.Core.Path.{sym, ap, _∙_, subst⁻¹}
 use Prim.Native.Nat.{ℕ}
 use native.Mathlib.Nat.{le-refl}
@@ -10,7 +10,7 @@ use mir.Facts.{toZ-ofZ}
 use Rattle.rules.specs.Table.{entry, column-in}
 use Rattle.laws.specs.InPercent.{InPercent}
 use Rattle.laws.proofs.Table.{entry-at-most}
-use Rattle.laws.proofs.Side.{itself, reached-entry, reached-whole}
+use Rattle.laws.proofs.Side.{number-in-percent, reached-entry, reached-whole}
 use Rattle.quality.proofs.side.reached.Statement.{statement}
 use Rattle.quality.proofs.side.reached.Tie as tie
 
@@ -23,7 +23,7 @@ entry-requires c κs = (c .before .before .before .pre .0 .size, c .row .ensures
 returns : tie.Need-returns
 returns c =
     let args = c .before .before .args in
-    (sym (ap pos (reached-whole _ (column-in (args .column .now)) (args .n) (pos (args .v)) (args .d) (le-ltb 0 (args .v) (omega arith)))), itself 10000 (le-refl 10000))
+    (sym (ap pos (reached-whole _ (column-in (args .column .now)) (args .n) (pos (args .v)) (args .d) (le-ltb 0 (args .v) (omega arith)))), number-in-percent 10000 (le-refl 10000))
 
 returns-2 : tie.Need-returns-2
 returns-2 c =
@@ -33,7 +33,7 @@ returns-2 c =
       c .entry .ensures
           ∙ ap (λ (k : ℕ). pos (entry (column-in (args .column .now)) k)) ((simp toZ-ofZ at (c .before .row .ensures)) .0)
           ∙ sym (ap pos (reached-entry _ (column-in (args .column .now)) (args .n) (pos (args .v)) (args .d) (lt-ltb 0 (args .v) (omega arith)))),
-      subst⁻¹ InPercent (c .entry .ensures) (itself _ (entry-at-most (start .pre .0 .shape) (c .before .row .ensures .1))),
+      subst⁻¹ InPercent (c .entry .ensures) (number-in-percent _ (entry-at-most (start .pre .0 .shape) (c .before .row .ensures .1))),
     )
 
 pub reached-spec : {M : Type 1} → statement M

@@ -13,8 +13,8 @@ cast-allowed c = omega (arith, c .shared-slice-known2 .given 12)
 allowed-requires : tie.Need-allowed-requires
 allowed-requires c κs = search needs
 
-length-requires : tie.Need-length-requires
-length-requires c κs = search needs
+length-field-requires : tie.Need-length-field-requires
+length-field-requires c κs = search needs
 
 cast-result : tie.Need-cast-result
 cast-result c = omega (arith, c .before .before .shared-slice-known2 .given 12)
@@ -26,7 +26,7 @@ add-result : tie.Need-add-result
 add-result c = omega (arith, c .before .before .shared-slice-known2 .given 12)
 
 returns : tie.Need-returns
-returns c = simp (c .before .allowed .ensures, c .length .ensures)
+returns c = simp (c .before .allowed .ensures, c .length-field .ensures)
 
 pub wrong-count-spec : {M : Type 1} → statement M
 wrong-count-spec =
@@ -35,7 +35,7 @@ wrong-count-spec =
     shared-slice-read-n
     cast-allowed
     allowed-requires
-    length-requires
+    length-field-requires
     cast-result
     mul-result
     add-result

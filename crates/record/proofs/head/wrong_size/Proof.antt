@@ -4,8 +4,8 @@ use borrow.Author.Needs.{needs}
 use Rattle.record.proofs.head.wrong_size.Statement.{statement}
 use Rattle.record.proofs.head.wrong_size.Tie as tie
 
-length-requires : tie.Need-length-requires
-length-requires c κs = search needs
+length-field-requires : tie.Need-length-field-requires
+length-field-requires c κs = search needs
 
 cast-result : tie.Need-cast-result
 cast-result c = search needs
@@ -17,7 +17,7 @@ returns : tie.Need-returns
 returns c = simp (lt-ltb _ _ (c .if1 .taken))
 
 returns-2 : tie.Need-returns-2
-returns-2 c = simp (le-ltb _ _ (c .before .if1 .left), c .length .ensures)
+returns-2 c = simp (le-ltb _ _ (c .before .if1 .left), c .length-field .ensures)
 
 pub wrong-size-spec : {M : Type 1} → statement M
-wrong-size-spec = tie.close (tie.spec length-requires cast-result sub-result returns returns-2)
+wrong-size-spec = tie.close (tie.spec length-field-requires cast-result sub-result returns returns-2)

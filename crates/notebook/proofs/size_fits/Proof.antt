@@ -4,8 +4,8 @@ use mathlib.Core.Bool.{_&&_}
 use Prim.Native.Nat.{_%_}
 use borrow.Author.Needs.{needs}
 use lib.Dec.{eqb}
-use Rattle.notebook.proofs.fits.Statement.{statement}
-use Rattle.notebook.proofs.fits.Tie as tie
+use Rattle.notebook.proofs.size_fits.Statement.{statement}
+use Rattle.notebook.proofs.size_fits.Tie as tie
 
 allowed-requires : tie.Need-allowed-requires
 allowed-requires c κs = search needs
@@ -13,5 +13,5 @@ allowed-requires c κs = search needs
 returns : tie.Need-returns
 returns c = ap (_&&_ (eqb (c .before .args .size % 4) 0)) (c .allowed .ensures)
 
-pub fits-spec : {M : Type 1} → statement M
-fits-spec = tie.close (tie.spec allowed-requires returns)
+pub size-fits-spec : {M : Type 1} → statement M
+size-fits-spec = tie.close (tie.spec allowed-requires returns)

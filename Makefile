@@ -10,7 +10,7 @@ HOSTS := hosts
 HOST := target/host
 SOURCES := $(shell find crates -name '*.rt' -o -name '*.antt')
 # whatever is compiled here holds the header's structs to their layout
-CFLAGS := -O2 -std=c99 -Wall -Wextra -Werror -Iinclude -include hosts/layout.h
+CFLAGS := -O2 -std=c11 -Wall -Wextra -Werror -Iinclude -include hosts/layout.h
 VERSION := $(shell sed -n 's/^.define TULPAVICE_VERSION "\(.*\)"$$/\1/p' include/tulpavice.h)
 # what a program that was built for one layout or one set of answers asks for when it is loaded, and no other
 SONAME := libtulpavice.so.$(firstword $(subst ., ,$(VERSION)))

@@ -3,7 +3,7 @@ import re
 import sys
 from pathlib import Path
 
-from edge import exports_are_declared, structs_are_laid_out_alike
+from edge import HEADER, c_text, exports_are_declared, structs_are_laid_out_alike
 from edits import edited, every_edit, fell_elsewhere, kit_edits, not_a_fact, own_edits
 from house import house_is_drawn
 from texts import EDGE, NAME, antt_files, brought, declared, functions, plain_rattle, texts
@@ -173,13 +173,14 @@ def edits_are_listed(root):
             + [f"{PROMISES}: there is no edit {name}" for name in sorted(lost)])
 
 
-# Words of the language and of its commands, which are no thing of this tree.
-LANGUAGE = {"rt", "requires", "ensures", "i64"}
+# Words of the language and of commands, which are no thing of this tree.
+LANGUAGE = set("rt requires ensures i64 match rw omega c V DESTDIR tulpavice-notebook".split())
 
 
 def things(root):
-    """Every name that a page may speak of: crates, functions, types, constants, and what definitions and proofs declare."""
+    """Every name that a page may speak of: crates, functions, types, constants, C's too, and what definitions and proofs declare."""
     names = {file.name for file in root.glob("crates/*")} | {f.name for f in functions(root)}
+    names |= set(re.findall(r"#define (\w+)", c_text(root, HEADER)))
     for place, text, keyword in texts(root):
         names |= {place.stem} | {name for _, name in sum(brought(text, keyword), [])}
         if keyword == "use":
@@ -190,11 +191,11 @@ def things(root):
 
 
 def named_things_are_there(root):
-    """Each law, function, type and file that the README or docs/PROMISES.md names is there."""
+    """Each law, function, type and file that the README or a page of docs/ names is there."""
     known, found = things(root) | LANGUAGE, []
     files = {str(file.relative_to(root)) for file in root.glob("**/*") if ".git" not in file.parts and "target" not in file.parts[len(root.parts):]}
     ends = {path[at.end():] for path in files for at in re.finditer(r"^|/", path)}
-    for page in ("README.md", PROMISES):
+    for page in sorted(["README.md", *(f"docs/{file.name}" for file in root.glob("docs/*.md"))]):
         text = (root / page).read_text("utf-8") if (root / page).exists() else ""
         # what is fenced, and what is quoted with a blank in it, is a command or an example
         text = re.sub(r"^ *```.*?^ *```|`[^`\n]*`", lambda m: "" if re.search(r"\s", m[0]) else m[0], text, flags=re.M | re.S)

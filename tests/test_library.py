@@ -1,9 +1,13 @@
-"""What the README says of calling the library from C and from Python is so; and both forms of it hold the header's names and no other."""
+"""What the README says of calling the library from C and from Python is so; the header is C and C++, and is held to its layout; and both forms of the
+library hold the header's names and no other."""
 import platform
 import re
+import shutil
 import subprocess
 import sys
+import tempfile
 import unittest
+from pathlib import Path
 
 from building import ROOT, make, running
 
@@ -42,8 +46,23 @@ class Library(unittest.TestCase):
     def test_readme_shows_what_make_run_prints(self):
         shown = ran(["make", "--no-print-directory", "run"])
         self.assertEqual(shown.returncode, 0, shown.stderr)
-        indented = "".join(f"  {line}".rstrip() + "\n" for line in shown.stdout.splitlines())
-        self.assertIn(f"  ```text\n{indented}  ```\n", README)
+        self.assertIn(f"```text\n{shown.stdout}```\n", README)
+
+    def test_readme_shows_a_lot_that_the_notebook_answers(self):
+        (command,) = re.findall(r"`(echo [^|`]*) \| target/host/notebook -`", README)
+        *words, program = running("target/host/notebook")
+        shown = subprocess.run([*words, program, "-"], cwd=ROOT, input=ran(["sh", "-c", command]).stdout, capture_output=True, text=True)
+        self.assertRegex(shown.stdout, r"\Aline   1   mean .* PWL .*\n\Z")
+        self.assertEqual((shown.stderr, shown.returncode), ("", 0))
+
+    def test_nothing_is_asked_of_others(self):
+        """It has no memory of its own, and calls nothing but what copies bytes: so it keeps and allocates nothing."""
+        make("lib")
+        listed = ran(["nm", "--format=posix", "target/lib/libtulpavice.a"]).stdout
+        symbols = re.findall(r"^(\S+) ([A-Za-z])\b", listed, re.M)
+        self.assertTrue(symbols)
+        self.assertLessEqual({name for name, kind in symbols if kind == "U"}, {"memcpy", "memset", "memmove"})
+        self.assertEqual({kind for _, kind in symbols if kind not in "UTtRr"}, set())
 
     def test_the_names_that_are_seen(self):
         make("lib")
@@ -52,3 +71,62 @@ class Library(unittest.TestCase):
         for library, words in ("libtulpavice.a", ["--extern-only", "--defined-only"]), ("libtulpavice.so", ["--dynamic", "--defined-only"]):
             listed = ran(["nm", *words, "--format=posix", f"target/lib/{library}"])
             self.assertEqual(set(re.findall(r"^(\w+) [A-Za-z] ", listed.stdout, re.M)), declared, listed.stderr)
+
+
+CALL = """#include "tulpavice.h"
+#include "tulpavice.h"
+
+int main(void)
+{
+    struct tulpavice_lot lot = {0, 0, 0, 0, 0, {0}};
+    struct tulpavice_percentages p = tulpavice_evaluate_lot(lot);
+    struct tulpavice_mean mean = tulpavice_mean(0, 0);
+    const char *version = TULPAVICE_VERSION;
+    return p.refusal.number == mean.refusal.number && *version ? 0 : 1;
+}
+"""
+
+
+class Header(unittest.TestCase):
+    def setUp(self):
+        folder = tempfile.TemporaryDirectory()
+        self.addCleanup(folder.cleanup)
+        self.folder = Path(folder.name)
+
+    def compiled(self, compiler, name, *words):
+        """Compiles a file that calls the library."""
+        (self.folder / name).write_text(CALL)
+        return ran([*compiler, "-pedantic-errors", "-Wall", "-Wextra", "-Werror", "-Iinclude", *words, "-c", "-o", str(self.folder / "call.o"), str(self.folder / name)])
+
+    def test_as_c(self):
+        for standard in "c89", "c99", "c11":
+            shown = self.compiled(make("print-CC").split(), "call.c", f"-std={standard}")
+            self.assertEqual((shown.returncode, shown.stderr), (0, ""), standard)
+
+    @unittest.skipUnless(shutil.which("g++"), "there is no compiler of C++ here")
+    def test_as_cpp(self):
+        """The names that it asks for are C's."""
+        for standard in "c++98", "c++17":
+            shown = self.compiled(["g++"], "call.cpp", f"-std={standard}")
+            self.assertEqual((shown.returncode, shown.stderr), (0, ""), standard)
+            asked = re.findall(r"^(\w+) U", ran(["nm", "--format=posix", str(self.folder / "call.o")]).stdout, re.M)
+            self.assertEqual(sorted(name for name in asked if "tulpavice" in name), ["tulpavice_evaluate_lot", "tulpavice_mean"])
+
+    def test_another_layout_is_not_compiled(self):
+        """Wherever a program is compiled here; a header as it stands is."""
+        header, words = (ROOT / "include/tulpavice.h").read_text("utf-8"), make("print-CFLAGS").replace("-Iinclude", f"-I{self.folder}").split()
+        for old, new, said in (
+            ("", "", None),
+            ("int64_t upper;\n    int64_t lower;", "int64_t lower;\n    int64_t upper;", "percentages.upper"),
+            ("    int32_t total;\n", "    int64_t total;\n", "mean.total"),
+            ("    uint32_t lot;\n", "", "AT\\(payment, lot, 28\\)"),
+            ("#define TULPAVICE_MOST 10", "#define TULPAVICE_MOST 11", "the size of lot"),
+            ("    int64_t pwl;\n};", "    int64_t pwl;\n    int64_t more;\n};", "the size of percentages"),
+            ("    size_t size;\n", "    uint32_t size;\n", "written.size|the size of written"),
+        ):
+            if old:
+                self.assertEqual(header.count(old), 1, old)
+            (self.folder / "tulpavice.h").write_text(header.replace(old, new) if old else header)
+            shown = ran([*make("print-CC").split(), *words, "-c", "-o", str(self.folder / "notebook.o"), "hosts/notebook.c"])
+            self.assertEqual(shown.returncode != 0, said is not None, shown.stderr)
+            self.assertRegex(shown.stderr, said or r"\A\Z")

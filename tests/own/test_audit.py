@@ -346,6 +346,7 @@ FAULTS = {
         "a_law_of_the_readmes": (README, "the law `law`", "the law `low`"),
         "a_function_of_the_readmes": (README, "`Pair::first`", "`Pair::third`"),
         "a_folder_of_the_readmes": (README, "`crates/toy`", "`crates/boy`"),
+        "a_law_of_another_page": ("docs/LAWS.md", None, "# Laws\n\n`law` and `low`.\n"),
         "a_link_of_the_readmes": (README, "(docs/PROMISES.md)", "(docs/PROMISE.md)"),
     },
     "house_is_drawn": {

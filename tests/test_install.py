@@ -1,0 +1,103 @@
+"""What `make install` installs, and that a program can be built over it."""
+import os
+import platform
+import re
+import shutil
+import subprocess
+import tempfile
+import unittest
+from pathlib import Path
+
+from building import ROOT, make, running
+from test_library import PRINTED, fenced
+
+VERSION = re.search(r'TULPAVICE_VERSION "(.*)"', (ROOT / "include/tulpavice.h").read_text("utf-8"))[1]
+MAJOR = VERSION.split(".")[0]
+FILES = {
+    "bin/tulpavice-notebook": 0o755,
+    "include/tulpavice.h": 0o644,
+    "lib/libtulpavice.a": 0o644,
+    f"lib/libtulpavice.so.{VERSION}": 0o755,
+    "lib/pkgconfig/tulpavice.pc": 0o644,
+    "share/man/man1/tulpavice-notebook.1": 0o644,
+}
+LINKS = {f"lib/libtulpavice.so.{MAJOR}": f"libtulpavice.so.{VERSION}", "lib/libtulpavice.so": f"libtulpavice.so.{MAJOR}"}
+
+
+def found(folder):
+    """The files under a folder with their modes, and the links with what they lead to."""
+    every = [path for path in folder.rglob("*") if path.is_symlink() or path.is_file()]
+    return ({str(path.relative_to(folder)): path.stat().st_mode & 0o777 for path in every if not path.is_symlink()},
+            {str(path.relative_to(folder)): os.readlink(path) for path in every if path.is_symlink()})
+
+
+class Install(unittest.TestCase):
+    @classmethod
+    def setUpClass(cls):
+        folder = tempfile.TemporaryDirectory()
+        cls.addClassCleanup(folder.cleanup)
+        cls.folder = Path(folder.name)
+        cls.prefix = cls.folder / "prefix"
+        make("install", f"PREFIX={cls.prefix}")
+
+    def ran(self, words, **more):
+        return subprocess.run(words, cwd=self.folder, stdin=subprocess.DEVNULL, capture_output=True, text=True, **more)
+
+    def asked(self, *words):
+        """What pkg-config says of the installed library."""
+        said = self.ran(["pkg-config", *words, "tulpavice"], env=dict(os.environ, PKG_CONFIG_PATH=str(self.prefix / "lib/pkgconfig")))
+        self.assertEqual((said.returncode, said.stderr), (0, ""))
+        return said.stdout.split()
+
+    def test_what_is_installed(self):
+        self.assertEqual(found(self.prefix), (FILES, LINKS))
+        for name in "include/tulpavice.h", "lib/libtulpavice.a":
+            own = ROOT / ("target/" * name.startswith("lib/") + name)
+            self.assertEqual((self.prefix / name).read_bytes(), own.read_bytes())
+
+    def test_a_package_is_made_under_another_root(self):
+        make("install", "PREFIX=/opt/own", "LIBDIR=/opt/own/lib", f"DESTDIR={self.folder}/stage")
+        self.assertEqual(found(self.folder / "stage/opt/own"), (FILES, LINKS))
+        for name in "lib/pkgconfig/tulpavice.pc", "share/man/man1/tulpavice-notebook.1":
+            text = (self.folder / "stage/opt/own" / name).read_text("utf-8")
+            self.assertNotRegex(text, rf"{self.folder}|@\w+@")
+            self.assertIn(VERSION, text)
+
+    def test_the_notebook_runs(self):
+        *words, program = running("target/host/notebook")
+        here, there = (self.ran([*words, str(name)]) for name in (ROOT / program, self.prefix / "bin/tulpavice-notebook"))
+        self.assertEqual((there.stdout, there.stderr, there.returncode), (here.stdout, "", 0))
+        self.assertIn("PWL", there.stdout)
+
+    def test_the_shared_library_is_asked_for_by_its_first_number(self):
+        said = self.ran(["readelf", "--dynamic", str(self.prefix / "lib/libtulpavice.so")])
+        self.assertIn(f"soname: [libtulpavice.so.{MAJOR}]", said.stdout)
+
+    @unittest.skipUnless(shutil.which("pkg-config"), "there is no pkg-config here")
+    def test_a_program_is_built_by_pkg_config(self):
+        """The README's example, by what pkg-config says alone: the header and the library are found nowhere else."""
+        self.assertEqual(self.asked("--modversion"), [VERSION])
+        (self.folder / "voids.c").write_text(fenced("c", "int main"))
+        *words, _ = running("target/host/notebook")
+        if platform.machine() == "x86_64":
+            built = self.ran([*make("print-CC").split(), "-o", "voids", "voids.c", *self.asked("--cflags", "--libs")])
+        else:
+            # the kit's linker takes no folders to look in, so that what is asked for is looked up here
+            folder, name = re.fullmatch(r"-L(\S+) -l(\S+)", " ".join(self.asked("--libs"))).groups()
+            built = self.ran([*make("print-CC").split(), "-c", "voids.c", *self.asked("--cflags")])
+            self.assertEqual((built.returncode, built.stderr), (0, ""))
+            *link, _ = make("print-LINK").split()  # the last word is where make would put it
+            built = self.ran([*link, "voids", "voids.o", f"{folder}/lib{name}.a"])
+        self.assertEqual(built.returncode, 0, built.stderr)
+        shown = self.ran([*words, "./voids"], env=dict(os.environ, LD_LIBRARY_PATH=str(self.prefix / "lib")))
+        self.assertEqual((shown.stdout, shown.stderr, shown.returncode), (PRINTED, "", 0))
+
+    @unittest.skipUnless(shutil.which("groff"), "there is no groff here")
+    def test_the_manual_page_is_laid_out(self):
+        page = self.ran(["groff", "-man", "-Tascii", "-ww", "-P-c", str(self.prefix / "share/man/man1/tulpavice-notebook.1")])
+        self.assertEqual((page.returncode, page.stderr), (0, ""))
+        self.assertIn(f"Tulpavice {VERSION}", page.stdout)
+
+
+if __name__ == "__main__":
+    unittest.main()

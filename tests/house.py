@@ -7,20 +7,26 @@ from pathlib import Path
 WIDE, HIGH, GAP, FLOOR, MARGIN = 92, 26, 18, 58, 14
 
 
-def crates(text):
-    """Each crate of crates.txt with those of the same list that it uses."""
-    named = dict(re.findall(r"^(\w+):(.*)$", text, re.M))
-    return {name: [used for used in uses.split() if used in named] for name, uses in named.items()}
+def dependencies(root):
+    """Of each crate that crates.txt lists, those that its line names."""
+    return {name: words.split() for name, words in re.findall(r"^(\w+):(.*)", (root / "crates.txt").read_text("utf-8"), re.M)}
 
 
-def below(uses, name):
-    """All that a crate stands on, at whatever depth."""
-    return set(uses[name]).union(*(below(uses, used) for used in uses[name]))
+def reached(listed, crate):
+    """A crate and all that it depends on, of those that are listed."""
+    found, todo = set(), [crate]
+    while todo:
+        name = todo.pop()
+        if name in listed and name not in found:
+            found.add(name)
+            todo += listed[name]
+    return found
 
 
-def footings(uses):
-    """For each crate those that it uses, but for what it has by way of another of them."""
-    return {name: [used for used in used_ if not any(used in below(uses, other) for other in used_)] for name, used_ in uses.items()}
+def footings(listed):
+    """For each crate those that it uses, but for what it has by way of another of them, and for the kit's."""
+    return {name: [used for used in uses if used in listed and not any(used in reached(listed, other) - {other} for other in uses)]
+            for name, uses in listed.items()}
 
 
 def floors(on):
@@ -33,7 +39,7 @@ def floors(on):
     for name in reversed(list(on)):
         above = [other for other in on if name in on[other] and other not in programs]
         highest[name] = min((highest[other] for other in above), default=top + 1) - 1
-    return {name: 1 + max(highest[foot] for foot in on[name]) if name in programs else highest[name] for name in on}
+    return {name: 1 + max((highest[foot] for foot in on[name]), default=-1) if name in programs else highest[name] for name in on}
 
 
 def ways(on, floor):
@@ -65,9 +71,9 @@ def middles(on, floor, lines):
     return {place: round(middle - left) for place, middle in at.items()}
 
 
-def drawing(text):
-    """The drawing, as an SVG."""
-    on = footings(crates(text))
+def drawing(listed):
+    """The drawing of the crates that are listed, each with what it uses, as an SVG."""
+    on = footings(listed)
     floor = floors(on)
     lines = ways(on, floor)
     at = middles(on, floor, lines)
@@ -92,10 +98,10 @@ def drawing(text):
 def house_is_drawn(root):
     """docs/house.svg is the drawing of crates.txt."""
     drawn = root / "docs/house.svg"
-    if drawn.exists() and drawn.read_text("utf-8") == drawing((root / "crates.txt").read_text("utf-8")):
+    if drawn.exists() and drawn.read_text("utf-8") == drawing(dependencies(root)):
         return []
     return ["docs/house.svg: it is not the drawing of crates.txt; `python3 tests/house.py > docs/house.svg` draws it"]
 
 
 if __name__ == "__main__":
-    print(drawing((Path(__file__).resolve().parent.parent / "crates.txt").read_text("utf-8")), end="")
+    print(drawing(dependencies(Path(__file__).resolve().parent.parent)), end="")

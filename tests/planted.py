@@ -18,28 +18,13 @@ from concurrent.futures import ThreadPoolExecutor
 from pathlib import Path
 
 from edits import bodies, edited, every_edit, fell_elsewhere, kind_edits, not_a_fact, own_edits, refused_in, touched, without
+from house import dependencies, reached
 
 ROOT = Path(__file__).resolve().parent.parent
 # As many as the kit's own jobs.
 WORKERS = min(4, os.cpu_count() or 1)
 
 Trial = namedtuple("Trial", "edit why log seconds")
-
-
-def dependencies(root):
-    """Of each listed crate, those that its line names."""
-    return {name: words.split() for name, words in re.findall(r"^(\w+):(.*)", (root / "crates.txt").read_text("utf-8"), re.M)}
-
-
-def reached(listed, crate):
-    """A crate and all that it depends on, of those that are listed."""
-    found, todo = set(), [crate]
-    while todo:
-        name = todo.pop()
-        if name in listed and name not in found:
-            found.add(name)
-            todo += listed[name]
-    return found
 
 
 def passed_as_source(listed, crate, edits):

@@ -26,7 +26,7 @@ HERE = "{root}/target/must-fail/toy/two_more/"
 
 TREE = {
     CRATES: "# NAME: DEP DEP ..\nground:\ntoy: ground\n",
-    HOUSE: drawing("ground:\ntoy: ground\n"),
+    HOUSE: drawing({"ground": [], "toy": ["ground"]}),
     LIB: '''// A toy: pub fn in_a_comment() {}
 ghost use mathlib.Core.Path.{_≡_};
 ghost use Prim.Native.Nat.{

@@ -5,8 +5,8 @@ from pathlib import Path
 
 import house
 
-CRATES = (Path(__file__).resolve().parent.parent.parent / "crates.txt").read_text("utf-8")
-SMALL = "# from the ground up\na:\nb: a kit\nc: a b\nd: a\ne: a d c\nf: b\n"
+CRATES = house.dependencies(Path(__file__).resolve().parent.parent.parent)
+SMALL = {"a": [], "b": ["a", "kit"], "c": ["a", "b"], "d": ["a"], "e": ["a", "d", "c"], "f": ["b"], "g": []}
 
 
 def under(pairs, name):
@@ -19,9 +19,9 @@ def overlap(start, end, least, most):
 
 
 class House(unittest.TestCase):
-    def seen(self, text):
+    def seen(self, listed):
         """What a drawing shows: its boxes with their names, and its lines with what they say and the points that they join."""
-        drawn = house.drawing(text)
+        drawn = house.drawing(listed)
         boxes = {name: tuple(map(int, box)) for *box, name in re.findall(
             r'<rect x="(\d+)" y="(\d+)" width="(\d+)" height="(\d+)" rx="4"/><text x="\d+" y="\d+" [^>]*>(\w+)</text>', drawn)}
         lines = {(upper, lower): [tuple(map(int, point.split(","))) for point in points.split()] for points, upper, lower in re.findall(
@@ -31,11 +31,11 @@ class House(unittest.TestCase):
 
     def test_a_small_house(self):
         boxes, lines = self.seen(SMALL)
-        self.assertEqual(set(boxes), set("abcdef"))
+        self.assertEqual(set(boxes), set("abcdefg"))
         self.assertEqual(set(lines), {("b", "a"), ("c", "b"), ("d", "a"), ("e", "c"), ("e", "d"), ("f", "b")})
 
     def test_lines_lead_to_all_that_is_used_and_to_nothing_else(self):
-        uses = house.crates(CRATES)
+        uses = {name: [used for used in words if used in CRATES] for name, words in CRATES.items()}
         boxes, lines = self.seen(CRATES)
         self.assertEqual(set(boxes), set(uses))
         for name in uses:
@@ -45,16 +45,16 @@ class House(unittest.TestCase):
                 self.assertEqual((name, foot) in lines, not others)
 
     def test_each_line_goes_down_from_box_to_box(self):
-        for text in SMALL, CRATES:
-            boxes, lines = self.seen(text)
+        for listed in SMALL, CRATES:
+            boxes, lines = self.seen(listed)
             for (upper, lower), points in lines.items():
                 (x, y, wide, high), (left, top, width, _) = boxes[upper], boxes[lower]
                 self.assertEqual((points[0], points[-1]), ((x + wide // 2, y + high), (left + width // 2, top)))
                 self.assertEqual(points, sorted(points, key=lambda point: point[1]))
 
     def test_no_box_covers_a_box_or_a_line(self):
-        for text in SMALL, CRATES:
-            boxes, lines = self.seen(text)
+        for listed in SMALL, CRATES:
+            boxes, lines = self.seen(listed)
             for name, (x, y, wide, high) in boxes.items():
                 for other, (left, top, width, height) in boxes.items():
                     self.assertFalse(name != other and overlap(x, x + wide, left, left + width) and overlap(y, y + high, top, top + height))

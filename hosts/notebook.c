@@ -7,36 +7,36 @@
 
    A number is a minus if it is negative, digits, and where wanted a point and up to three decimals; zeros past these do
    no harm. A minus alone stands for an absent limit. Blank lines, and lines that start with #, are passed over. A line
-   that is not a lot, or whose lot the library refuses, is bad: it is told on standard error, and the next is read. */
+   ends in a line feed, with a carriage return before it or without. A line that is not a lot, or whose lot the library
+   refuses, is bad: it is told on standard error, and the next is read. */
 #include "tulpavice.h"
 
 #include <errno.h>
 #include <stdio.h>
 #include <string.h>
 
-/* The first line can be pasted into a shell, whatever name the program was called by. */
-static void show_help(FILE *out, const char *program)
+/* The program's name, as it was called, without its folder. */
+static const char *name = "notebook";
+
+/* The first line can be pasted into a shell: it has the program's folder too. */
+static void show_help(const char *called)
 {
-    fprintf(out,
-            "echo 2.65 5.35 4.2 4.5 3.3 5.0 5.4 2.5 3.8 4.1 4.3 4.5 | %s -\n"
-            "line   1   mean    4.160   deviation   0.825   PWL  91.28\n"
-            "\n"
-            "usage: notebook                  shows a worked example\n"
-            "       notebook [--tabs] FILE    answers the lots of a file, or of standard\n"
-            "                                 input if FILE is -\n"
-            "       notebook --help           shows this\n"
-            "       notebook --version        shows which version this is\n"
-            "\n"
-            "A lot is one line: LOWER UPPER READING READING ..., with 2 to %d readings.\n"
-            "A number has up to three decimals; a minus alone is an absent limit. Blank\n"
-            "lines, and lines that start with #, are passed over. A lot is answered with\n"
-            "its line's number, mean, deviation and percent within limits (PWL); with\n"
-            "--tabs these stand under a header, with a tab between them. A bad line is\n"
-            "told on standard error, with its number, the word and the reason, and the\n"
-            "next is read.\n"
-            "\n"
-            "Exit status: 0 no line was bad, 1 one was, 2 wrong usage or a file that fails.\n",
-            program, TULPAVICE_MOST);
+    printf("echo 2.65 5.35 4.2 4.5 3.3 5.0 5.4 2.5 3.8 4.1 4.3 4.5 | %s -\n", called);
+    printf("    is answered by: line   1   mean    4.160   deviation   0.825   PWL  91.28\n\n");
+    printf("usage: %s                  shows a worked example\n", name);
+    printf("       %s [--tabs] FILE    answers the lots of a file, or of standard\n", name);
+    printf("       %*s                  input if FILE is -\n", (int)strlen(name), "");
+    printf("       %s --help           shows this\n", name);
+    printf("       %s --version        shows which version this is\n\n", name);
+    printf("A lot is one line: LOWER UPPER READING READING ..., with 2 to %d readings.\n"
+           "A number is from -500 to 500, with up to three decimals; a minus alone is an\n"
+           "absent limit. Blank lines, and lines that start with #, are passed over. A\n"
+           "lot is answered with its line's number, mean, deviation and percent within\n"
+           "limits (PWL); with --tabs these stand under a header, with a tab between\n"
+           "them. A bad line is told on standard error, with its number, the word and\n"
+           "the reason, and the next is read.\n\n"
+           "Exit status: 0 no line was bad, 1 one was, 2 wrong usage or a file that fails.\n",
+           TULPAVICE_MOST);
 }
 
 enum status { GOOD, BAD_LINE, TROUBLE };
@@ -146,12 +146,13 @@ static void show_example(void)
         pwl[c] = tulpavice_evaluate(lots[c].readings, SUBLOTS, lots[c].upper, 1, lots[c].lower, 1).pwl;
     struct tulpavice_payment paid = tulpavice_pay(pwl[0], pwl[1], pwl[2], CENTS_A_TON, HUNDREDTHS_OF_A_TON);
     const uint32_t rejected[CHARACTERISTICS] = {paid.vma, paid.voids, paid.density};
-    printf("Percent within limits (PWL): document 000's worked example, in percent.\n\n");
+    printf("Percent within limits (PWL): Illinois DOT's worked example, all in percent.\n\n");
     show_readings(lots);
     show_rows(lots, rejected);
     show_payment(&paid);
-    printf("\nBy its own table, of whole percents, document 000 has 98, 92, 93 and 1.001,\n"
-           "and pays $350,350 for 10,000 tons at $35.00.\n");
+    printf("\nThe example's own paper (document 000) has a table of whole percents: by it the\n"
+           "PWLs are 98, 92 and 93, the composite is 1.001, and 10,000 tons at $35.00 are\n"
+           "paid $350,350.\n");
 }
 
 /* ---- The lots of a file, read a character at a time: no line is too long to be held, since none is held ---- */
@@ -170,6 +171,20 @@ struct input {
     struct word *word; /* which what is taken belongs to */
 };
 
+/* A carriage return at the end of a line is no part of it. Elsewhere it is no blank: a file whose lines end in nothing
+   else would be one line, and be answered as one lot. */
+static int next_of(FILE *file)
+{
+    int next = getc(file);
+    if (next == '\r') {
+        int after = getc(file);
+        if (after == '\n' || after == EOF)
+            return after;
+        ungetc(after, file);
+    }
+    return next;
+}
+
 static int take(struct input *in)
 {
     int taken = in->next;
@@ -178,12 +193,11 @@ static int take(struct input *in)
             in->word->start[in->word->length] = (char)taken;
         in->word->length++;
     }
-    in->next = getc(in->file);
+    in->next = next_of(in->file);
     return taken;
 }
 
-/* A carriage return is as good as a blank, for lines that end in one and a line feed. */
-static int at_blank(const struct input *in) { return in->next == ' ' || in->next == '\t' || in->next == '\r'; }
+static int at_blank(const struct input *in) { return in->next == ' ' || in->next == '\t'; }
 
 static int at_digit(const struct input *in) { return in->next >= '0' && in->next <= '9'; }
 
@@ -359,7 +373,7 @@ static enum status answer_line(struct input *in, int tabs)
         return GOOD;
     }
     fflush(stdout); /* lines keep their order where both streams go to one place */
-    fprintf(stderr, "notebook: line %lu: ", in->line);
+    fprintf(stderr, "%s: line %lu: ", name, in->line);
     if (missing)
         fputs("the upper limit is missing", stderr);
     else if (wrong) {
@@ -371,16 +385,30 @@ static enum status answer_line(struct input *in, int tabs)
     return BAD_LINE;
 }
 
+/* To the end of a line that has nothing to answer. */
+static enum status pass_over(struct input *in)
+{
+    int returned = 0;
+    while (!at_line_end(in))
+        returned |= take(in) == '\r';
+    if (returned) {
+        fflush(stdout);
+        fprintf(stderr, "%s: line %lu: a carriage return within a comment\n", name, in->line);
+    }
+    return returned ? BAD_LINE : GOOD;
+}
+
 static enum status answer_lots(FILE *file, int tabs)
 {
-    struct input in = {file, getc(file), 1, NULL};
+    struct input in = {file, next_of(file), 1, NULL};
     enum status status = GOOD;
     if (tabs)
         printf("line\tmean\tdeviation\tPWL\n");
     for (; in.next != EOF; in.line++) {
         while (at_blank(&in))
             take(&in);
-        if (in.next != '#' && !at_line_end(&in) && answer_line(&in, tabs) != GOOD)
+        int lot = in.next != '#' && !at_line_end(&in);
+        if ((lot ? answer_line(&in, tabs) : pass_over(&in)) != GOOD)
             status = BAD_LINE;
         while (!at_line_end(&in))
             take(&in);
@@ -390,17 +418,17 @@ static enum status answer_lots(FILE *file, int tabs)
     return ferror(file) ? TROUBLE : status;
 }
 
-static enum status answer_file(const char *name, int tabs)
+static enum status answer_file(const char *path, int tabs)
 {
-    int standard = strcmp(name, "-") == 0;
-    FILE *file = standard ? stdin : fopen(name, "r");
+    int standard = strcmp(path, "-") == 0;
+    FILE *file = standard ? stdin : fopen(path, "r");
     if (!file) {
-        fprintf(stderr, "notebook: %s cannot be opened: %s\n", name, strerror(errno));
+        fprintf(stderr, "%s: %s cannot be opened: %s\n", name, path, strerror(errno));
         return TROUBLE;
     }
     enum status status = answer_lots(file, tabs);
     if (status == TROUBLE)
-        fprintf(stderr, "notebook: %s cannot be read\n", standard ? "standard input" : name);
+        fprintf(stderr, "%s: %s cannot be read\n", name, standard ? "standard input" : path);
     if (!standard)
         fclose(file);
     return status;
@@ -409,29 +437,41 @@ static enum status answer_file(const char *name, int tabs)
 /* What begins with a minus, and is more, is an option, known or not; a file of such a name has a path, as ./-x. */
 static int is_option(const char *word) { return word[0] == '-' && word[1]; }
 
+static enum status wrong_usage(const char *word, const char *why)
+{
+    fprintf(stderr, "%s: \"%s\" %s; --help shows how %s is used\n", name, word, why, name);
+    return TROUBLE;
+}
+
 static enum status answer(int argc, char **argv)
 {
     int tabs = argc > 1 && strcmp(argv[1], "--tabs") == 0;
+    const char *file = argc > 1 + tabs ? argv[1 + tabs] : NULL;
     if (argc < 2)
         show_example();
     else if (argc == 2 && strcmp(argv[1], "--help") == 0)
-        show_help(stdout, argv[0]);
+        show_help(argv[0]);
     else if (argc == 2 && strcmp(argv[1], "--version") == 0)
-        printf("notebook (Tulpavice) %s\n", TULPAVICE_VERSION);
-    else if (argc == 2 + tabs && !is_option(argv[1 + tabs]))
-        return answer_file(argv[1 + tabs], tabs);
-    else {
-        show_help(stderr, argv[0]);
-        return TROUBLE;
-    }
+        printf("%s (Tulpavice) %s\n", name, TULPAVICE_VERSION);
+    else if (!file)
+        return wrong_usage(argv[1], "needs a file, or - for standard input");
+    else if (is_option(file))
+        return wrong_usage(file, "is not understood here");
+    else if (argc > 2 + tabs)
+        return wrong_usage(argv[2 + tabs], "is a word too many");
+    else
+        return answer_file(file, tabs);
     return GOOD;
 }
 
 int main(int argc, char **argv)
 {
+    const char *folder = argc > 0 ? strrchr(argv[0], '/') : NULL;
+    if (argc > 0)
+        name = folder ? folder + 1 : argv[0];
     enum status status = answer(argc, argv);
     if (fflush(stdout) == 0 && !ferror(stdout))
         return status;
-    fprintf(stderr, "notebook: the answers cannot be written\n");
+    fprintf(stderr, "%s: the answers cannot be written\n", name);
     return TROUBLE;
 }

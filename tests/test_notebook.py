@@ -244,6 +244,13 @@ class BadLines(unittest.TestCase):
         self.words("reading 1 {} is not a number", "- 5 {}", b"\0", b"4\0", b"4\0004", b"4\x0b4", b"4\x1a", b"\x7f")
         self.words("reading 2 {} is not a number", "- 5 4 {}", b"\0", b"4\xff", b"4\0")
 
+    def test_carriage_returns_elsewhere_than_at_the_end(self):
+        """Lines that end in nothing else are not taken for one lot, nor for one comment."""
+        self.words("reading 2 {} is not a number", "- 5 4 {} 5 4 4", b"4\r-", b"\r4", b"4\r4", b"4\r")
+        self.told({b"- 5 4 4\r\r": 'reading 2 "4\\x0d" is not a number', b"\r\r": 'the lower limit "\\x0d" is not a number'})
+        self.words("the lower limit {} is not a number", "{} 5 4 4", b"\r", b"\r-")
+        self.told(dict.fromkeys([b"# lots\r- 5 4 4\r", b"#\r#", b" # \r\r"], "a carriage return within a comment"))
+
     def test_wrong_number_of_readings(self):
         for line, count in {"- 5": 0, "- 5 4": 1, "4 5 4": 1, **{"- 5" + " 4" * n: n for n in (11, 12, 256 + 2, 10000, 65536 + 2)}}.items():
             self.refused(f"4, a lot has 2 to 10 readings, and this has {count}", line)
@@ -307,6 +314,7 @@ class Usage(unittest.TestCase):
     def test_help_begins_with_a_line_that_can_be_pasted(self):
         """What it shows is answered; here the program may need an emulator's words before its name."""
         command, answer, _ = notebook("--help").stdout.decode().split("\n", 2)
+        answer = answer.removeprefix("    is answered by: ")
         name = str(ROOT / PROGRAM)
         self.assertTrue(command.endswith(f" | {name} -"), command)
         ran = subprocess.run(["sh", "-c", command.replace(name, shlex.join(COMMAND))], capture_output=True, text=True)
@@ -320,7 +328,7 @@ class Usage(unittest.TestCase):
         self.assertEqual(len(examples), 2)
         for command, printed in examples:
             ran = subprocess.run(["sh", "-c", f"{command} | {shlex.join(COMMAND)} -"], capture_output=True, text=True)
-            self.assertEqual(ran.stdout + ran.stderr, f"{printed}\n")
+            self.assertEqual(ran.stdout + ran.stderr, printed.removeprefix("tulpavice-") + "\n")
 
     def test_the_manual_names_what_help_names(self):
         page = (ROOT / "hosts/notebook.1.in").read_text("utf-8").replace("\\-", "-")
@@ -348,10 +356,23 @@ class Usage(unittest.TestCase):
         ran = notebook("--tabs", "-", input=b"# none\n")
         self.assertEqual((ran.stdout, ran.stderr, ran.returncode), (b"line\tmean\tdeviation\tPWL\n", b"", 0))
 
-    def test_words_that_are_not_understood(self):
-        for words in ["-", "-"], ["--tabs"], ["--tabs", "-", "-"], ["-", "--tabs"], ["--tab", "-"], ["-x"], ["--tabs", "--help"], ["--help", "-"], ["--"]:
+    def test_wrong_usage(self):
+        here, more = "is not understood here", "is a word too many"
+        for words, word, why in ((["-", "-"], "-", more), (["--tabs"], "--tabs", "needs a file, or - for standard input"),
+                                 (["--tabs", "-", "x"], "x", more), (["-", "--tabs"], "--tabs", more), (["--tab", "-"], "--tab", here), (["-x"], "-x", here),
+                                 (["--tabs", "--help"], "--help", here), (["--help", "-"], "--help", here), (["--"], "--", here)):
             ran = notebook(*words, input=b"- 4 4 4\n")
-            self.assertEqual((ran.stdout, ran.stderr, ran.returncode), (b"", notebook("--help").stdout, 2))
+            self.assertEqual((ran.stdout, ran.stderr.decode(), ran.returncode), (b"", f'notebook: "{word}" {why}; --help shows how notebook is used\n', 2))
+
+    def test_it_goes_by_the_name_that_it_is_called(self):
+        with tempfile.TemporaryDirectory() as folder:
+            other = pathlib.Path(folder) / "tulpavice-notebook"
+            other.symlink_to(COMMAND[-1])
+            ran = subprocess.run([*COMMAND[:-1], str(other), "-"], input=b"x\n", capture_output=True)
+            self.assertEqual(ran.stderr, b'tulpavice-notebook: line 1: the lower limit "x" is not a number\n')
+            ran = subprocess.run([*COMMAND[:-1], str(other), "--help"], capture_output=True, text=True)
+            self.assertTrue(ran.stdout.split("\n")[0].endswith(f" | {other} -"))
+            self.assertEqual(re.findall(r"\S*notebook", ran.stdout.split("\n", 1)[1]), ["tulpavice-notebook"] * 4)
 
     def test_a_file_that_cannot_be_opened(self):
         with tempfile.TemporaryDirectory() as folder:

@@ -58,7 +58,8 @@ bench: target/bench/bench
 # It is proved before it is compiled; what is proved is said crate by crate, and all of it where a proof fails.
 $(LIBRARY).a: crates.txt $(SOURCES)
 	@mkdir -p $(@D)
-	@echo 'proving the library: from nothing it takes two minutes or so' >&2
+	@command -v rt > /dev/null || { echo 'rt, the command of the Rattle kit, is not on the path' >&2; exit 1; }
+	@echo 'proving the library: from nothing it takes two to three minutes' >&2
 	@rt check tulpavice 2>&1 | awk -v all=target/prove.log '{ print > all } /^rt: ok/ { ok = 1 } \
 	    /^rt: .*( NOT PROVED| proved \([0-9])/ { sub(/^rt: /, "  "); print | "cat >&2"; fflush() } END { exit !ok }' \
 	    || { cat target/prove.log; exit 1; }
@@ -68,6 +69,7 @@ $(LIBRARY).a: crates.txt $(SOURCES)
 
 $(LIBRARY).so: $(LIBRARY).a
 	@$(SHARED)
+	@ln -sf $(@F) $(@D)/$(SONAME)
 
 $(HOST)/%.o: $(HOSTS)/%.c include/tulpavice.h hosts/layout.h
 	@mkdir -p $(@D)

@@ -148,11 +148,21 @@ struct tulpavice_payment tulpavice_pay(int64_t vma, int64_t voids, int64_t densi
    minimum and a voids target. Refusals 5 and 9. */
 struct tulpavice_mixture_limits tulpavice_mixture(int64_t mixture, int32_t minimum, int32_t target);
 
-/* The lot whose record fills these bytes. Refusals 1 to 7. */
+/* The lot whose record fills these bytes. Numbers stand highest byte first, those of four bytes in two's complement:
+
+     bytes 0 and 1   how many bytes follow: 11 + 4n
+     byte 2          the version, 1
+     byte 3          bit 0 set if an upper limit is present, bit 1 if a lower one is; the others 0
+     bytes 4 to 7    the upper limit, 0 if absent
+     bytes 8 to 11   the lower limit, 0 if absent
+     byte 12         n, how many readings there are
+     from 13 on      the readings, four bytes each
+
+   Refusals 1 to 7. */
 struct tulpavice_read tulpavice_read(const uint8_t *bytes, size_t size);
 
 /* Writes a lot's record, 13 + 4n bytes, from the start of lent memory, and leaves what lies past it. A refused write
-   leaves every byte. Refusals 4 to 8. */
+   leaves every byte. All `room` bytes are lent, also those that are not written. Refusals 4 to 8. */
 struct tulpavice_written tulpavice_write(struct tulpavice_lot lot, uint8_t *out, size_t room);
 
 /* The notebook's row, of readings that come as bytes, four to each, two's complement, highest first, as in a record.

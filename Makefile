@@ -9,8 +9,9 @@ LIBRARY := target/lib/libtulpavice
 HOSTS := hosts
 HOST := target/host
 SOURCES := $(shell find crates -name '*.rt' -o -name '*.antt')
+CFLAGS ?= -O2 -Wall -Wextra -Werror
 # whatever is compiled here holds the header's structs to their layout
-CFLAGS := -O2 -std=c11 -Wall -Wextra -Werror -Iinclude -include hosts/layout.h
+COMPILE = $(CC) -std=c11 -Iinclude -include hosts/layout.h $(CFLAGS) -c -o $@
 VERSION := $(shell sed -n 's/^.define TULPAVICE_VERSION "\(.*\)"$$/\1/p' include/tulpavice.h)
 # what a program that was built for one layout or one set of answers asks for when it is loaded, and no other
 SONAME := libtulpavice.so.$(firstword $(subst ., ,$(VERSION)))
@@ -21,6 +22,8 @@ LIBDIR ?= $(PREFIX)/lib
 INCLUDEDIR ?= $(PREFIX)/include
 MANDIR ?= $(PREFIX)/share/man
 INSTALL ?= install
+FILLED_IN = sed -e 's|@VERSION@|$(VERSION)|' -e 's|@PREFIX@|$(PREFIX)|' -e 's|@LIBDIR@|$(subst $(PREFIX)/,$${prefix}/,$(LIBDIR))|' \
+    -e 's|@INCLUDEDIR@|$(subst $(PREFIX)/,$${prefix}/,$(INCLUDEDIR))|'
 
 # Document 000's worked example, as the notebook shows it.
 run: $(HOST)/notebook
@@ -31,17 +34,16 @@ lib: $(LIBRARY).a $(LIBRARY).so
 
 # For packagers: PREFIX and the folders under it as users will have them, DESTDIR before them while a package is made.
 install: lib $(HOST)/notebook
-	$(INSTALL) -d $(DESTDIR)$(BINDIR) $(DESTDIR)$(LIBDIR)/pkgconfig $(DESTDIR)$(INCLUDEDIR) $(DESTDIR)$(MANDIR)/man1
-	$(INSTALL) -m 755 $(HOST)/notebook $(DESTDIR)$(BINDIR)/tulpavice-notebook
-	$(INSTALL) -m 644 $(LIBRARY).a $(DESTDIR)$(LIBDIR)
-	$(INSTALL) -m 755 $(LIBRARY).so $(DESTDIR)$(LIBDIR)/libtulpavice.so.$(VERSION)
-	ln -sf libtulpavice.so.$(VERSION) $(DESTDIR)$(LIBDIR)/$(SONAME)
-	ln -sf $(SONAME) $(DESTDIR)$(LIBDIR)/libtulpavice.so
-	$(INSTALL) -m 644 include/tulpavice.h $(DESTDIR)$(INCLUDEDIR)
-	sed 's|@VERSION@|$(VERSION)|; s|@PREFIX@|$(PREFIX)|; s|@LIBDIR@|$(LIBDIR)|; s|@INCLUDEDIR@|$(INCLUDEDIR)|' \
-	    hosts/tulpavice.pc.in > $(DESTDIR)$(LIBDIR)/pkgconfig/tulpavice.pc
-	sed 's|@VERSION@|$(VERSION)|' hosts/notebook.1.in > $(DESTDIR)$(MANDIR)/man1/tulpavice-notebook.1
-	chmod 644 $(DESTDIR)$(LIBDIR)/pkgconfig/tulpavice.pc $(DESTDIR)$(MANDIR)/man1/tulpavice-notebook.1
+	$(INSTALL) -d "$(DESTDIR)$(BINDIR)" "$(DESTDIR)$(LIBDIR)/pkgconfig" "$(DESTDIR)$(INCLUDEDIR)" "$(DESTDIR)$(MANDIR)/man1"
+	$(INSTALL) -m 755 $(HOST)/notebook "$(DESTDIR)$(BINDIR)/tulpavice-notebook"
+	$(INSTALL) -m 644 $(LIBRARY).a "$(DESTDIR)$(LIBDIR)"
+	$(INSTALL) -m 755 $(LIBRARY).so "$(DESTDIR)$(LIBDIR)/libtulpavice.so.$(VERSION)"
+	ln -sf libtulpavice.so.$(VERSION) "$(DESTDIR)$(LIBDIR)/$(SONAME)"
+	ln -sf $(SONAME) "$(DESTDIR)$(LIBDIR)/libtulpavice.so"
+	$(INSTALL) -m 644 include/tulpavice.h "$(DESTDIR)$(INCLUDEDIR)"
+	$(FILLED_IN) hosts/tulpavice.pc.in > "$(DESTDIR)$(LIBDIR)/pkgconfig/tulpavice.pc"
+	$(FILLED_IN) hosts/notebook.1.in > "$(DESTDIR)$(MANDIR)/man1/tulpavice-notebook.1"
+	chmod 644 "$(DESTDIR)$(LIBDIR)/pkgconfig/tulpavice.pc" "$(DESTDIR)$(MANDIR)/man1/tulpavice-notebook.1"
 
 # The edit loop: audits the tree, proves what changed, and tries the edits of what differs from the last commit, or from BASE.
 check:
@@ -67,13 +69,13 @@ $(LIBRARY).a: crates.txt $(SOURCES)
 	@rt staticlib tulpavice > target/staticlib.log 2>&1 || { cat target/staticlib.log; exit 1; }
 	@cp target/staticlib/libtulpavice.a $@
 
-$(LIBRARY).so: $(LIBRARY).a
+$(LIBRARY).so: $(LIBRARY).a include/tulpavice.h hosts/x86-64.mk
 	@$(SHARED)
 	@ln -sf $(@F) $(@D)/$(SONAME)
 
 $(HOST)/%.o: $(HOSTS)/%.c include/tulpavice.h hosts/layout.h
 	@mkdir -p $(@D)
-	@$(CC) $(CFLAGS) -c -o $@ $<
+	@$(COMPILE) $<
 
 $(HOST)/%: $(HOST)/%.o $(LIBRARY).a
 	@$(LINK) $^ > $@.log 2>&1 || { cat $@.log; exit 1; }
@@ -84,7 +86,7 @@ target/bench/table.h: bench/table.py data/table-106-1.tsv
 	@python3 $^ > $@
 
 target/bench/%.o: bench/%.c $(wildcard bench/*.h) include/tulpavice.h hosts/layout.h target/bench/table.h
-	@$(CC) $(CFLAGS) -Itarget/bench -c -o $@ $<
+	@$(COMPILE) -Itarget/bench $<
 
 target/bench/bench: $(patsubst bench/%.c,target/bench/%.o,$(wildcard bench/*.c)) $(LIBRARY).a
 	@$(LINK) $^ > $@.log 2>&1 || { cat $@.log; exit 1; }

@@ -33,8 +33,8 @@ static void show_help(const char *called)
            "absent limit. Blank lines, and lines that start with #, are passed over. A\n"
            "lot is answered with its line's number, mean, deviation and percent within\n"
            "limits (PWL); with --tabs these stand under a header, with a tab between\n"
-           "them. A bad line is told on standard error, with its number, the word and\n"
-           "the reason, and the next is read.\n\n"
+           "them. A bad line is told on standard error, with its number, the reason and\n"
+           "the word that is wrong, and the next is read.\n\n"
            "Exit status: 0 no line was bad, 1 one was, 2 wrong usage or a file that fails.\n",
            TULPAVICE_MOST);
 }
@@ -211,7 +211,7 @@ static int32_t with_digit(int32_t number, int32_t digit)
 
 static const char NOT_A_NUMBER[] = "is not a number";
 
-/* By whole numbers alone, so that no decimal is rounded. Answers what is wrong, or NULL, as do the next two. */
+/* By whole numbers alone, so that no decimal is rounded. Answers what is wrong, or NULL, as read_word and read_line do. */
 static const char *read_number(struct input *in, int32_t *thousandths, uint32_t *present)
 {
     int negative = in->next == '-';

@@ -5,8 +5,8 @@ MACHINE := $(shell uname -m)
 
 ifeq ($(MACHINE),x86_64)
 CC := gcc
-LINK = gcc -o $@
-SHARED = gcc -shared -Wl,-soname,$(SONAME) -o $@ -Wl,--whole-archive $< -Wl,--no-whole-archive
+LINK = gcc $(LDFLAGS) -o $@
+SHARED = gcc $(LDFLAGS) -shared -Wl,-soname,$(SONAME) -o $@ -Wl,--whole-archive $< -Wl,--no-whole-archive
 RUN :=
 else
 KIT := $(or $(RATTLE_HOME),$(shell dirname "$$(dirname "$$(readlink -f "$$(command -v rt)")")"))

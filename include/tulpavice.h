@@ -4,7 +4,7 @@
    Percentages are hundredths of a percent, 0 to 10,000. A composite is in thousandths, money in cents, a quantity in
    hundredths of a ton.
 
-   Any numbers and any bytes may be passed. Every entry either answers or gives one refusal:
+   Any numbers and any bytes may be passed. Every call either answers or gives one refusal:
 
      1  a record of fewer than 13 bytes, or whose length is not its size less 2
      2  a record whose version is not 1
@@ -17,8 +17,8 @@
      9  in pay: a number below 0, a PWL above 10,000, a price above 10,000,000 or a quantity above 100,000,000;
         in the mixture lookup: a mixture number not 0 to 3
 
-   The lowest that applies is given, of those that the entry can meet. Each answer begins with the refusal, whose number
-   is 0 for none; of what is refused every other number is 0.
+   The lowest that applies is given, of those that the call can meet. Each struct that is answered begins with the refusal,
+   whose number is 0 for none; of what is refused every other number is 0.
 
    A limit is a number and a presence: 0 is absent, and its number is then not read; any other is present.
 

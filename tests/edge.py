@@ -11,6 +11,17 @@ BESIDE = {"number": "", "presence": "_present", "lower": "_lower", "upper": "_up
 WIDTH = {"uint8_t": 1, "int32_t": 4, "uint32_t": 4, "int64_t": 8, "size_t": 8, "double": 8}
 
 
+# All that the two headers tell the preprocessor; a line more could make what is read here mean something else.
+TOLD = {
+    HEADER: r"""#(ifndef|define) TULPAVICE_H|#include <std(def|int)\.h>|#ifdef __cplusplus|#endif|#define TULPAVICE_(VERSION "[\d.]+"|MOST \d+)""",
+    LAYOUT: r"""#(ifndef|define) TULPAVICE_LAYOUT_H|#include "tulpavice\.h"|#endif|#undef (SIZE|AT)|#define (SIZE|AT)\([\w, ]*\) _Static_assert\(.*\)""",
+}
+# And what else stands there: types and calls, of which the functions below read all parts.
+STRUCT = r"\bstruct\s+(\w+)\s*\{([^}]*)\};"
+CALL = r"(?<![^\s;}])((?:struct )?\w+)\s+(\w+)\(([^()]*)\);"
+PLACE = r"^(?:SIZE|AT)\((\w+), (?:(\w+), )?(\d+)\);"
+
+
 def c_text(root, name):
     """A file of C without its comments, or nothing where there is none."""
     file = root / name
@@ -24,9 +35,10 @@ def sources(root):
 
 
 def c_type(type_):
-    """The type that C has for one of the crates' types, by value."""
-    snake = re.sub(r"(?<=.)(?=[A-Z])", "_", type_.removeprefix("Host")).lower()
-    return PLAIN.get(type_) or f"struct tulpavice_{snake}"
+    """The type that C has for one of the crates' types, by value; what is neither a number nor a `Host..` is no type of C's."""
+    if not re.fullmatch(r"Host[A-Z]\w*", type_):
+        return PLAIN.get(type_, f"no type of C's ({type_})")
+    return "struct tulpavice" + re.sub(r"(?=[A-Z])", "_", type_.removeprefix("Host")).lower()
 
 
 def c_parameter(name, type_):
@@ -47,7 +59,7 @@ def exported(root):
     """For each exported function where it stands, what C has for its answer, and for its parameters."""
     found = {}
     for place, text in sources(root):
-        for name, parameters, answer in re.findall(r'extern\s*"C"\s*fn\s+(\w+)\s*\(([^)]*)\)\s*(?:->\s*(\w+))?', text):
+        for name, parameters, answer in re.findall(r'extern\s*"C"\s*fn\s+(\w+)\s*\(([^)]*)\)\s*(?:->\s*(\S+))?', text):
             split = [re.split(r"\s*:\s*", part, maxsplit=1) for part in listed(parameters)]
             found[name] = place, c_type(answer) if answer else "void", sum((c_parameter(*part) for part in split), [])
     return found
@@ -56,8 +68,8 @@ def exported(root):
 def declared(root):
     """For each function of the header the type of its answer, and its parameters; the name of a size is left out."""
     found = {}
-    for answer, name, parameters in re.findall(r"([\w ]+?)\s*\b(\w+)\(([^)]*)\);", c_text(root, HEADER)):
-        found[name] = " ".join(answer.split()), [re.sub(r"^size_t \w+$", "size_t", part) for part in listed(parameters)]
+    for answer, name, parameters in re.findall(CALL, c_text(root, HEADER)):
+        found[name] = answer, [re.sub(r"^size_t \w+$", "size_t", part) for part in listed(parameters)]
     return found
 
 
@@ -75,12 +87,13 @@ def exports_are_declared(root):
 
 
 def host_structs(root):
-    """The fields of each struct that the crates lay out as C does, names and types, by the name that C has for it."""
+    """The fields of each struct that the crates lay out as C does, names and types, by the name that C has for it; two of one name are none."""
     found = {}
     for _, text in sources(root):
-        for name, fields in re.findall(r"#\[repr\(C\)\]\s*pub\s+struct\s+(\w+)\s*\{([^}]*)\}", text):
+        for marks, name, fields in re.findall(r"((?:#\[[^\n]*\]\s*)*)pub\s+struct\s+(Host\w+)\s*\{([^}]*)\}", text):
             split = [part.removeprefix("pub ").split(": ") for part in listed(fields)]
-            found[c_type(name)] = [(PLACES.get(field, field), c_type(type_)) for field, type_ in split]
+            once = c_type(name) not in found and marks.split() == ["#[repr(C)]"]
+            found[c_type(name)] = [(PLACES.get(field, field), c_type(type_)) for field, type_ in split] if once else []
     return found
 
 
@@ -88,7 +101,7 @@ def header_structs(root):
     """The same of each struct of the header; an array has a field for each of its places."""
     text = c_text(root, HEADER)
     constants, found = dict(re.findall(r"#define (\w+) (\d+)", text)), {}
-    for name, fields in re.findall(r"\bstruct\s+(\w+)\s*\{([^}]*)\}", text):
+    for name, fields in re.findall(STRUCT, text):
         here = found[f"struct {name}"] = []
         for type_, field, count in re.findall(r"([\w ]+?)\s+(\w+)(?:\[(\w+)\])?;", fields):
             places = [f"[{i}]" for i in range(int(constants.get(count, count)))] if count else [""]
@@ -115,7 +128,7 @@ def laid_out(structs, type_, nested):
 
 def asserted(root):
     """What hosts/layout.h says: the size of each struct, and the place of each of its fields."""
-    said = re.findall(r"^(?:SIZE|AT)\((\w+), (?:(\w+), )?(\d+)\);", c_text(root, LAYOUT), re.M)
+    said = re.findall(PLACE, c_text(root, LAYOUT), re.M)
     return {(f"struct tulpavice_{name}", field, int(number)) for name, field, number in said}
 
 
@@ -130,6 +143,11 @@ def structs_are_laid_out_alike(root):
         for number, at, _ in numbers:
             places.setdefault(re.split(r"[.[]", number)[0], at)
         right |= {(name, "", size), *((name, field, at) for field, at in places.items())}
+    for file, read in (HEADER, [STRUCT, CALL, r'extern "C" \{|\}']), (LAYOUT, [PLACE]):
+        rest = re.sub(rf"^({TOLD[file]})$", "", c_text(root, file), flags=re.M)
+        for pattern in read:
+            rest = re.sub(pattern, "", rest, flags=re.M)
+        found += [f"{file}: what is read of it leaves out {line}" for line in filter(str.strip, rest.splitlines())]
     said = asserted(root)
     for wrong, word in (said - right, "it says"), (right - said, "it does not say"):
         found += [f"{LAYOUT}: {word} that {name} has {f'{field} at {number}' if field else f'{number} bytes'}" for name, field, number in sorted(wrong)]

@@ -67,7 +67,7 @@ def middles(on, floor, lines):
                 steps.append(steps[-1] + GAP + WIDE * ((left in floor) + (right in floor)) / 2)
             start = sum(wanted[place] - step for place, step in zip(row, steps)) / len(row)
             at.update((place, start + step) for place, step in zip(row, steps))
-    left = min(at[name] for name in on) - WIDE / 2 - MARGIN
+    left = min(middle - WIDE / 2 * (place in floor) for place, middle in at.items()) - MARGIN
     return {place: round(middle - left) for place, middle in at.items()}
 
 
@@ -77,7 +77,7 @@ def drawing(listed):
     floor = floors(on)
     lines = ways(on, floor)
     at = middles(on, floor, lines)
-    width, height = max(at.values()) + WIDE // 2 + MARGIN, FLOOR * max(floor.values()) + HIGH + 2 * MARGIN
+    width, height = max(middle + WIDE // 2 * (place in floor) for place, middle in at.items()) + MARGIN, FLOOR * max(floor.values()) + HIGH + 2 * MARGIN
 
     def top(level):
         return height - MARGIN - HIGH - FLOOR * level

@@ -6,6 +6,7 @@ from pathlib import Path
 import house
 
 CRATES = house.dependencies(Path(__file__).resolve().parent.parent.parent)
+WIDE = {"a": [], "b": ["a"], "c": ["b"], "d": ["c"], "e": ["a", "d"], "f": ["a", "d"], "g": ["a", "e"]}
 SMALL = {"a": [], "b": ["a", "kit"], "c": ["a", "b"], "d": ["a"], "e": ["a", "d", "c"], "f": ["b"], "g": []}
 
 
@@ -27,6 +28,9 @@ class House(unittest.TestCase):
         lines = {(upper, lower): [tuple(map(int, point.split(","))) for point in points.split()] for points, upper, lower in re.findall(
             r'<polyline points="([-\d, ]+)"><title>(\w+) stands on (\w+)</title></polyline>', drawn)}
         self.assertEqual((drawn.count("<text"), drawn.count("<polyline")), (len(boxes), len(lines)))
+        width, height = map(int, re.search(r'viewBox="0 0 (\d+) (\d+)"', drawn).groups())
+        corners = [(x + dx, y + dy) for x, y, wide, high in boxes.values() for dx in (0, wide) for dy in (0, high)]
+        self.assertTrue(all(0 < x < width and 0 < y < height for x, y in sum(lines.values(), corners)))
         return boxes, lines
 
     def test_a_small_house(self):
@@ -45,7 +49,7 @@ class House(unittest.TestCase):
                 self.assertEqual((name, foot) in lines, not others)
 
     def test_each_line_goes_down_from_box_to_box(self):
-        for listed in SMALL, CRATES:
+        for listed in SMALL, WIDE, CRATES:
             boxes, lines = self.seen(listed)
             for (upper, lower), points in lines.items():
                 (x, y, wide, high), (left, top, width, _) = boxes[upper], boxes[lower]
@@ -53,7 +57,7 @@ class House(unittest.TestCase):
                 self.assertEqual(points, sorted(points, key=lambda point: point[1]))
 
     def test_no_box_covers_a_box_or_a_line(self):
-        for listed in SMALL, CRATES:
+        for listed in SMALL, WIDE, CRATES:
             boxes, lines = self.seen(listed)
             for name, (x, y, wide, high) in boxes.items():
                 for other, (left, top, width, height) in boxes.items():

@@ -42,7 +42,7 @@ fitting-count size e =
     let few : allowed (size / 4) ≡ true = and-eq-true-iff (eqb (size % 4) 0) (allowed (size / 4)) .0 e .1 in
     leb-true (size / 4) most (and-eq-true-iff (leb 2 (size / 4)) (leb (size / 4) most) .0 few .1)
 
--- For any totals and limits |PWL| is at most 30,000: a first bound, before it is known to be a percentage.
+-- For any totals and limits, by a `Column`, |PWL| is at most 30,000: a first bound, before it is known to be a percentage.
 pub pwl-small : (a : Totals) {column : List ℕ} → Column column → (upper lower : Limit) → natAbs (percentages-of nearest column a upper lower .pwl .0) ≤ 30000
 unfolding percentages-of
 pwl-small a {column} shape upper lower =

@@ -22,6 +22,6 @@ unfoldable pub first-from : (ℕ → Bool) → ℕ → ℕ → ℕ
 first-from passes zero s = s
 first-from passes (suc tries) s = elim (passes s) [ true ↦ s | false ↦ first-from passes tries (suc s) ]
 
--- The first number that is the deviation. There is exactly one, and it is not above V (laws).
+-- The first number that is the deviation. For n of 2 or more there is exactly one, and it is not above V (laws).
 unfoldable pub deviation : ℕ → ℤ → ℕ
 deviation n v = first-from (is-deviation n v) (natAbs v) 0

@@ -10,8 +10,9 @@ HOSTS := hosts
 HOST := target/host
 SOURCES := $(shell find crates -name '*.rt' -o -name '*.antt')
 CFLAGS ?= -O2 -Wall -Wextra -Werror
-# whatever is compiled here holds the header's structs to their layout
-COMPILE = $(CC) -std=c11 -Iinclude -include hosts/layout.h $(CFLAGS) -c -o $@
+COMPILE = $(CC) -std=c11 -Iinclude $(CFLAGS) -c -o $@
+# whatever is compiled here waits for it: the header's structs are laid out as the library has them
+LAYOUT := target/layout.o
 VERSION := $(shell sed -n 's/^.define TULPAVICE_VERSION "\(.*\)"$$/\1/p' include/tulpavice.h)
 # what a program that was built for one layout or one set of answers asks for when it is loaded, and no other
 SONAME := libtulpavice.so.$(firstword $(subst ., ,$(VERSION)))
@@ -73,7 +74,11 @@ $(LIBRARY).so: $(LIBRARY).a include/tulpavice.h hosts/x86-64.mk
 	@$(SHARED)
 	@ln -sf $(@F) $(@D)/$(SONAME)
 
-$(HOST)/%.o: $(HOSTS)/%.c include/tulpavice.h hosts/layout.h
+$(LAYOUT): hosts/layout.c include/tulpavice.h
+	@mkdir -p $(@D)
+	@$(COMPILE) $<
+
+$(HOST)/%.o: $(HOSTS)/%.c $(LAYOUT)
 	@mkdir -p $(@D)
 	@$(COMPILE) $<
 
@@ -85,7 +90,7 @@ target/bench/table.h: bench/table.py data/table-106-1.tsv
 	@mkdir -p $(@D)
 	@python3 $^ > $@
 
-target/bench/%.o: bench/%.c $(wildcard bench/*.h) include/tulpavice.h hosts/layout.h target/bench/table.h
+target/bench/%.o: bench/%.c $(wildcard bench/*.h) $(LAYOUT) target/bench/table.h
 	@$(COMPILE) -Itarget/bench $<
 
 target/bench/bench: $(patsubst bench/%.c,target/bench/%.o,$(wildcard bench/*.c)) $(LIBRARY).a

@@ -1,9 +1,9 @@
-"""The edge to C, read as texts: what the crates export, and what include/tulpavice.h and hosts/layout.h say of it."""
+"""The edge to C, read as texts: what the crates export, and what include/tulpavice.h and hosts/layout.c say of it."""
 import re
 
 from texts import plain_rattle
 
-HEADER, LAYOUT = "include/tulpavice.h", "hosts/layout.h"
+HEADER, LAYOUT = "include/tulpavice.h", "hosts/layout.c"
 PLAIN = {"u8": "uint8_t", "i32": "int32_t", "u32": "uint32_t", "i64": "int64_t", "usize": "size_t", "f64": "double"}
 # What C calls the places of a lot, and the numbers of a limit and of a pair of limits, which stand there side by side.
 PLACES = {word: f"readings[{i}]" for i, word in enumerate("first second third fourth fifth sixth seventh eighth ninth tenth".split())}
@@ -11,10 +11,10 @@ BESIDE = {"number": "", "presence": "_present", "lower": "_lower", "upper": "_up
 WIDTH = {"uint8_t": 1, "int32_t": 4, "uint32_t": 4, "int64_t": 8, "size_t": 8, "double": 8}
 
 
-# All that the two headers tell the preprocessor; a line more could make what is read here mean something else.
+# All that the header and the layout tell the preprocessor; a line more could make what is read here mean something else.
 TOLD = {
     HEADER: r"""#(ifndef|define) TULPAVICE_H|#include <std(def|int)\.h>|#ifdef __cplusplus|#endif|#define TULPAVICE_(VERSION "[\d.]+"|MOST \d+)""",
-    LAYOUT: r"""#(ifndef|define) TULPAVICE_LAYOUT_H|#include "tulpavice\.h"|#endif|#undef (SIZE|AT)|#define (SIZE|AT)\([\w, ]*\) _Static_assert\(.*\)""",
+    LAYOUT: r"""#include "tulpavice\.h"|#define (SIZE|AT)\([\w, ]*\) _Static_assert\(.*\)""",
 }
 # And what else stands there: types and calls, of which the functions below read all parts.
 STRUCT = r"\bstruct\s+(\w+)\s*\{([^}]*)\};"
@@ -127,13 +127,13 @@ def laid_out(structs, type_, nested):
 
 
 def asserted(root):
-    """What hosts/layout.h says: the size of each struct, and the place of each of its fields."""
+    """What hosts/layout.c says: the size of each struct, and the place of each of its fields."""
     said = re.findall(PLACE, c_text(root, LAYOUT), re.M)
     return {(f"struct tulpavice_{name}", field, int(number)) for name, field, number in said}
 
 
 def structs_are_laid_out_alike(root):
-    """Each struct of include/tulpavice.h is laid out as the crates' own, number for number, and hosts/layout.h says how."""
+    """Each struct of include/tulpavice.h is laid out as the crates' own, number for number, and hosts/layout.c says how."""
     ours, theirs, found, right = host_structs(root), header_structs(root), [], set()
     for name in theirs:
         numbers, size, _ = laid_out(ours, name, theirs)

@@ -56,10 +56,10 @@ class Install(unittest.TestCase):
             self.assertEqual((self.prefix / name).read_bytes(), own.read_bytes())
 
     def test_a_package_is_made_under_another_root(self):
-        make("install", "PREFIX=/opt/own", "LIBDIR=/opt/own/lib", f"DESTDIR={self.folder}/stage")
-        self.assertEqual(found(self.folder / "stage/opt/own"), (FILES, LINKS))
+        make("install", "PREFIX=/opt/own", "LIBDIR=/opt/own/lib", f"DESTDIR={self.folder}/the stage")
+        self.assertEqual(found(self.folder / "the stage/opt/own"), (FILES, LINKS))
         for name in "lib/pkgconfig/tulpavice.pc", "share/man/man1/tulpavice-notebook.1":
-            text = (self.folder / "stage/opt/own" / name).read_text("utf-8")
+            text = (self.folder / "the stage/opt/own" / name).read_text("utf-8")
             self.assertNotRegex(text, rf"{self.folder}|@\w+@")
             self.assertIn(VERSION, text)
 

@@ -63,6 +63,9 @@ class Library(unittest.TestCase):
         self.assertLessEqual({name for name, kind in symbols if kind == "U"}, {"memcpy", "memset", "memmove"})
         self.assertEqual({kind for _, kind in symbols if kind not in "UTtRr"}, set())
 
+    def test_what_measures_it_is_built(self):
+        make("target/bench/bench")
+
     def test_the_names_that_are_seen(self):
         make("lib")
         header = re.sub(r"/\*.*?\*/", "", (ROOT / "include/tulpavice.h").read_text("utf-8"), flags=re.S)
@@ -111,15 +114,19 @@ class Header(unittest.TestCase):
             asked = re.findall(r"^(\w+) U", ran(["nm", "--format=posix", str(self.folder / "call.o")]).stdout, re.M)
             self.assertEqual(sorted(name for name in asked if "tulpavice" in name), ["tulpavice_evaluate_lot", "tulpavice_mean"])
 
+    def test_every_program_waits_for_the_layout(self):
+        asked = ran(["make", "--dry-run", "--always-make", "--no-print-directory", "target/host/notebook.o", "target/host/answers.o"]).stdout
+        self.assertLess(asked.index("hosts/layout.c"), min(asked.index(f"hosts/{name}.c") for name in ("notebook", "answers")))
+
     def test_another_layout_is_not_compiled(self):
-        """Wherever a program is compiled here; the header as it stands is."""
+        """No program is compiled before it is; with the header as it stands it is compiled."""
         *compile_, _ = make("print-COMPILE").replace("-Iinclude", f"-I{self.folder}").split()  # the last word is where make would put it
         header = (ROOT / "include/tulpavice.h").read_text("utf-8")
 
         def said(old, new):
             self.assertEqual(header.count(old), 1, old)
             (self.folder / "tulpavice.h").write_text(header.replace(old, new))
-            shown = ran([*compile_, str(self.folder / "notebook.o"), "hosts/notebook.c"])
+            shown = ran([*compile_, str(self.folder / "layout.o"), "hosts/layout.c"])
             return shown.stderr if shown.returncode else None
 
         self.assertEqual(said("#define TULPAVICE_MOST 10", "#define TULPAVICE_MOST 10"), None)

@@ -1,9 +1,6 @@
 /* Where each number stands in the structs that pass between C and the library, in bytes. The library has them so from
    the structs of crates/rules/src/host.rt, which the audit holds against these lines; the compiler holds the header's
-   against them wherever a program is compiled here. */
-#ifndef TULPAVICE_LAYOUT_H
-#define TULPAVICE_LAYOUT_H
-
+   against them, and no program is compiled here before it has. */
 #include "tulpavice.h"
 
 #define SIZE(name, bytes) _Static_assert(sizeof(struct tulpavice_##name) == (bytes), "the size of " #name)
@@ -66,8 +63,3 @@ AT(row, refusal, 0);
 AT(row, mean, 8);
 AT(row, deviation, 16);
 AT(row, pwl, 24);
-
-#undef SIZE
-#undef AT
-
-#endif

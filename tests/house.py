@@ -2,6 +2,7 @@
 
 What a crate stands on by way of another has no line of its own."""
 import re
+from math import fsum
 from pathlib import Path
 
 WIDE, HIGH, GAP, FLOOR, MARGIN = 92, 26, 18, 58, 14
@@ -48,7 +49,9 @@ def ways(on, floor):
 
 
 def middles(on, floor, lines):
-    """How far to the right each place has its middle: each floor is put in the order of what its lines lead to, below and above in turns."""
+    """How far to the right each place has its middle: each floor is put in the order of what its lines lead to, below and above in turns.
+
+    Sums are rounded once, so that every Python draws the same."""
     level = dict(floor)
     level.update((place, place[2]) for line in lines for place in line[1:-1])
     beside = {place: [] for place in level}
@@ -60,12 +63,12 @@ def middles(on, floor, lines):
     for turn in range(80):
         for here in sorted(set(level.values()), reverse=turn % 2):
             row = [place for place in level if level[place] == here]
-            wanted = {place: sum(at[other] for other in beside[place] or [place]) / max(len(beside[place]), 1) for place in row}
+            wanted = {place: fsum(at[other] for other in beside[place] or [place]) / max(len(beside[place]), 1) for place in row}
             row.sort(key=lambda place: (wanted[place], str(place)))
             steps = [0.0]
             for left, right in zip(row, row[1:]):
                 steps.append(steps[-1] + GAP + WIDE * ((left in floor) + (right in floor)) / 2)
-            start = sum(wanted[place] - step for place, step in zip(row, steps)) / len(row)
+            start = fsum(wanted[place] - step for place, step in zip(row, steps)) / len(row)
             at.update((place, start + step) for place, step in zip(row, steps))
     left = min(middle - WIDE / 2 * (place in floor) for place, middle in at.items()) - MARGIN
     return {place: round(middle - left) for place, middle in at.items()}

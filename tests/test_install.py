@@ -79,17 +79,21 @@ class Install(unittest.TestCase):
         self.assertEqual(self.asked("--modversion"), [VERSION])
         (self.folder / "voids.c").write_text(fenced("c", "int main"))
         *words, _ = running("target/host/notebook")
+        loaded = str(self.prefix / "lib")
         if platform.machine() == "x86_64":
             built = self.ran([*make("print-CC").split(), "-o", "voids", "voids.c", *self.asked("--cflags", "--libs")])
         else:
-            # the kit's linker takes no folders to look in, so that what is asked for is looked up here
-            folder, name = re.fullmatch(r"-L(\S+) -l(\S+)", " ".join(self.asked("--libs"))).groups()
             built = self.ran([*make("print-CC").split(), "-c", "voids.c", *self.asked("--cflags")])
             self.assertEqual((built.returncode, built.stderr), (0, ""))
-            *link, _ = make("print-LINK").split()  # the last word is where make would put it
-            built = self.ran([*link, "voids", "voids.o", f"{folder}/lib{name}.a"])
+            # the kit's own linker takes no -L and -l, and the one below it does, as gcc's would
+            tools = make("print-TOOLS").strip()
+            built = self.ran([f"{tools}/bin/ld.lld", "-pie", "--dynamic-linker=/lib64/ld-linux-x86-64.so.2", "-o", "voids",
+                              *(f"{tools}/lib/{name}" for name in ("Scrt1.o", "crti.o", "crtbeginS.o")), "voids.o", *self.asked("--libs"),
+                              *(f"{tools}/lib/{name}" for name in ("libc.so.6", "libc_nonshared.a", "crtendS.o", "crtn.o"))])
+            words = [word.replace(f"{tools}/lib", f"{tools}/lib:{loaded}") if word == f"{tools}/lib" else word for word in words]
         self.assertEqual(built.returncode, 0, built.stderr)
-        shown = self.ran([*words, "./voids"], env=dict(os.environ, LD_LIBRARY_PATH=str(self.prefix / "lib")))
+        self.assertIn(f"[libtulpavice.so.{MAJOR}]", self.ran(["readelf", "--dynamic", "voids"]).stdout)
+        shown = self.ran([*words, "./voids"], env=dict(os.environ, LD_LIBRARY_PATH=loaded))
         self.assertEqual((shown.stdout, shown.stderr, shown.returncode), (PRINTED, "", 0))
 
     @unittest.skipUnless(shutil.which("groff"), "there is no groff here")

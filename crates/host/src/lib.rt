@@ -5,6 +5,7 @@ use rules::DeviationAnswer;
 use rules::Evaluation;
 use rules::Limit;
 use rules::Limits;
+use rules::ListAnswer;
 use rules::MeanAnswer;
 use rules::MixtureAnswer;
 use rules::PayAnswer;
@@ -14,6 +15,7 @@ use rules::Thousandths;
 use rules::Verdict;
 use rules::WriteAnswer;
 use rules::host::HostDeviation;
+use rules::host::HostListed;
 use rules::host::HostMean;
 use rules::host::HostMixtureLimits;
 use rules::host::HostPair;
@@ -24,8 +26,8 @@ use rules::host::HostRow;
 use rules::host::HostWritten;
 ghost use mathlib.Core.Path.{_≡_};
 ghost use Rattle.rules.specs.Notebook.{lent-limit};
-ghost use Rattle.rules.specs.Answers.{mean-said, deviation-said, evaluation-said, pay-said, mixture-said, write-said, row-said};
-ghost use Rattle.rules.specs.Host.{refusal-part, host-mean, host-deviation, host-percentages, verdict-number, host-payment, host-pair, host-mixture-limits, host-written, host-row};
+ghost use Rattle.rules.specs.Answers.{mean-said, deviation-said, evaluation-said, pay-said, mixture-said, write-said, list-said, row-said};
+ghost use Rattle.rules.specs.Host.{refusal-part, host-mean, host-deviation, host-percentages, verdict-number, host-payment, host-pair, host-mixture-limits, host-written, host-listed, host-row};
 
 // The part with which every answer begins, where nothing is refused.
 pub const UNREFUSED: HostRefusal = HostRefusal { number: 0 };
@@ -179,6 +181,21 @@ pub fn written(answer: WriteAnswer) -> HostWritten
         WriteAnswer::Answers(size) => HostWritten {
             refusal: UNREFUSED,
             size: size,
+        },
+    }
+}
+
+pub fn listed(answer: ListAnswer) -> HostListed
+    ensures { λ r. ⌜ r ≡ host-listed (list-said answer) ⌝ }
+{
+    match answer {
+        ListAnswer::Refused(refusal) => HostListed {
+            refusal: refused(refusal),
+            items: 0,
+        },
+        ListAnswer::Answers(items) => HostListed {
+            refusal: UNREFUSED,
+            items: items,
         },
     }
 }

@@ -41,6 +41,13 @@ pub fn held_lot(lot: HostLot) -> HeldLot
             Thousandths(lot.eighth),
             Thousandths(lot.ninth),
             Thousandths(lot.tenth),
+            Thousandths(lot.eleventh),
+            Thousandths(lot.twelfth),
+            Thousandths(lot.thirteenth),
+            Thousandths(lot.fourteenth),
+            Thousandths(lot.fifteenth),
+            Thousandths(lot.sixteenth),
+            Thousandths(lot.seventeenth),
         ],
     }
 }
@@ -81,6 +88,13 @@ fn host_lot(lot: HeldLot) -> HostLot
         eighth: readings[7],
         ninth: readings[8],
         tenth: readings[9],
+        eleventh: readings[10],
+        twelfth: readings[11],
+        thirteenth: readings[12],
+        fourteenth: readings[13],
+        fifteenth: readings[14],
+        sixteenth: readings[15],
+        seventeenth: readings[16],
     }
 }
 

@@ -1,7 +1,7 @@
 -- What holds of readings and of a lot that are not refused.
-use mathlib.Core.Path.{_≡_, sym, ap, _∙_}
+use mathlib.Core.Path.{_≡_, refl, sym, ap, _∙_}
 use mathlib.Core.Bool.{true, false, and-eq-true-iff, _||_}
-use mathlib.Core.List.{List, [], _∷_}
+use mathlib.Core.List.{List, [], _∷_, _++_}
 use Prim.Native.Nat.{ℕ, _≤_}
 use borrow.Author.Tests.{leb-true, not-false}
 use lib.Dec.{leb}
@@ -13,18 +13,18 @@ use Rattle.rules.specs.declared.Totals.{Totals}
 use Rattle.rules.specs.declared.TotalsAnswer.{TotalsAnswer}
 use Rattle.rules.specs.declared.Refusal.{Refusal}
 use Rattle.rules.specs.declared.Percentages.{Percentages}
-use Rattle.rules.specs.Said.{refused, answers, checked}
+use Rattle.rules.specs.Said.{Case, refused, answers, checked}
 use Rattle.rules.specs.Lot.{Lot, lot-of, most}
-use Rattle.rules.specs.Table.{Found, table-106-1, entries}
+use Rattle.rules.specs.Table.{Found, table-106-1, has-column, entries}
 use Rattle.rules.specs.Percent.{Rule, totals}
-use Rattle.rules.specs.Refusals.{allowed, count-case, out-of-range, any-out, range-case, unlimited-case, crossed, crossed-case}
-use Rattle.rules.specs.Meets.{readings-meet, limits-meet, lot-meets, counted-meets, evaluation-meets}
+use Rattle.rules.specs.Refusals.{allowed, count-case, out-of-range, any-out, range-case, unlimited-case, crossed, crossed-case, column-case}
+use Rattle.rules.specs.Meets.{readings-meet, limits-meet, lot-meets, counted-meets, column-meets, evaluation-meets}
 use Rattle.rules.specs.Answers.{totals-said}
 use Rattle.rules.specs.Entries.{percentages-of, percentages, column-for, evaluated}
-use Rattle.laws.specs.Totalled.{totals-says, lot-totals, totalled}
+use Rattle.laws.specs.Totalled.{totals-says, with-column-say, lot-totals, totalled, by-table}
 use Rattle.laws.specs.Bounds.{Accepted, Bounded}
 use Rattle.laws.specs.Moved.{Counted}
-use Rattle.laws.proofs.Ruled.{none-met, ruled-answers, ruled-unrefused, totals-answered, totals-refused}
+use Rattle.laws.proofs.Ruled.{none-met, none-of-either, ruled-answers, ruled-then, ruled-unrefused, totals-answered, totals-refused}
 use Rattle.laws.proofs.Tests.{neither}
 use Rattle.laws.proofs.Bounds.{totals-bounded}
 
@@ -88,20 +88,32 @@ lot-accepted lot e =
       uncrossed = none-met (crossed-case upper lower) [] (limited .1) .0;
     }
 
--- A lot whose totals are answered is not refused, and the totals are its own and in bounds, if its readings are as many as it says.
+-- Where no refusal is given for a column, there is one.
+pub column-found : (found : Found) → checked (column-meets found) ≡ answers tt → has-column found ≡ true
+column-found found e = not-false (has-column found) (none-met (column-case found) [] e .0)
+
+-- To ask for a column after all else is to have that case last.
+pub totalled-with-column : (meets : Lot → List Case) (lot : Lot) → with-column-say (totalled meets lot) ≡ totalled (λ l. meets l ++ column-meets (column-for l)) lot
+unfolding totalled
+totalled-with-column meets lot = ruled-then (meets lot) (column-meets (column-for lot)) (lot-totals lot) with-column-say (λ r. refl) refl
+
+-- A lot whose totals are answered where a percentage is asked for is not refused and has a column, and the totals are its own and in bounds, if its
+-- readings are as many as it says.
 pub record LotTotalled (lot : Lot) (a : Totals) : Type 0 where
-  pub unrefused : checked (counted-meets lot) ≡ answers tt
+  pub unrefused : checked (by-table lot) ≡ answers tt
   pub same : lot-totals lot ≡ a
   pub accepted : LotAccepted lot
   pub bounded : Bounded a
+  pub column : has-column (table-106-1 (a .n)) ≡ true
 
 pub lot-totalled :
     (lot : Lot) {t : TotalsAnswer} {a : Totals} → Counted lot →
-    totals-said t ≡ totalled counted-meets lot → t ≡ TotalsAnswer.Answers a → LotTotalled lot a
-unfolding totalled
+    totals-said t ≡ totalled by-table lot → t ≡ TotalsAnswer.Answers a → LotTotalled lot a
+unfolding totalled evaluation-meets
 lot-totalled lot counted e h =
-    let r = totals-answered (counted-meets lot) (lot-totals lot) e h in
-    let ok = lot-accepted lot (r .0) in
+    let r = totals-answered (by-table lot) (lot-totals lot) e h in
+    let none = none-of-either (counted-meets lot) (column-meets (column-for lot)) (r .0) in
+    let ok = lot-accepted lot (none .0) in
     let size : length (lot .readings) ≡ lot .n = counted (ok .few) in
     record {
       unrefused = r .0;
@@ -110,6 +122,7 @@ lot-totalled lot counted e h =
       bounded =
           totals-bounded {xs = lot .readings} (record { least = rw size (ok .least); few = rw size (ok .few); all-in-range = ok .all-in-range })
           (sym (r .1) ∙ ap (λ (m : ℕ). totals m (lot .readings)) (sym size));
+      column = ap (λ (b : Totals). has-column (table-106-1 (b .n))) (sym (r .1)) ∙ column-found (column-for lot) (none .1);
     }
 
 -- The readings of an accepted lot that is a lent list with two limits are accepted.
@@ -122,19 +135,20 @@ lent-readings h = record { least = h .least; few = h .few; all-in-range = h .all
 pub totalled-is-evaluated :
     (rule : Rule) {lot : Lot} {a : Totals} → LotTotalled lot a →
     answers (percentages-of rule (entries (table-106-1 (a .n))) a (lot .upper) (lot .lower)) ≡ evaluated rule (column-for lot) lot
-unfolding evaluated evaluation-meets
+unfolding evaluated
 totalled-is-evaluated rule {lot} h =
     ap (λ (b : Totals). answers (percentages-of rule (entries (table-106-1 (b .n))) b (lot .upper) (lot .lower))) (sym (h .same))
     ∙ sym (ruled-unrefused _ _ (h .unrefused))
 
 -- and where they are refused, its evaluation is the same refusal.
-pub untotalled-is-refused : (rule : Rule) (found : Found) (lot : Lot) {t : TotalsAnswer} {r : Refusal} → totals-said t ≡ totalled counted-meets lot → t ≡ TotalsAnswer.Refused r → evaluated rule found lot ≡ refused r
-unfolding evaluated evaluation-meets totalled
-untotalled-is-refused rule found lot e h = totals-refused (counted-meets lot) (lot-totals lot) e _ h
+pub untotalled-is-refused : (rule : Rule) (lot : Lot) {t : TotalsAnswer} {r : Refusal} → totals-said t ≡ totalled by-table lot → t ≡ TotalsAnswer.Refused r → evaluated rule (column-for lot) lot ≡ refused r
+unfolding evaluated totalled
+untotalled-is-refused rule lot e h = totals-refused (by-table lot) (lot-totals lot) e _ h
 
--- An evaluation that is answered has the lot's percentages, and its lot is not refused.
-pub answered : (rule : Rule) (found : Found) (lot : Lot) (p : Percentages) → evaluated rule found lot ≡ answers p → LotAccepted lot × (percentages rule (entries found) lot ≡ p)
+-- An evaluation that is answered has the lot's percentages, its lot is not refused, and there is a column.
+pub answered : (rule : Rule) (found : Found) (lot : Lot) (p : Percentages) → evaluated rule found lot ≡ answers p → LotAccepted lot × (percentages rule (entries found) lot ≡ p) × (has-column found ≡ true)
 unfolding evaluated evaluation-meets
 answered rule found lot p e =
-    let r = ruled-answers (evaluation-meets lot) (percentages rule (entries found) lot) p e in
-    (lot-accepted lot (r .0), r .1)
+    let r = ruled-answers (evaluation-meets found lot) (percentages rule (entries found) lot) p e in
+    let none = none-of-either (counted-meets lot) (column-meets found) (r .0) in
+    (lot-accepted lot (none .0), r .1, column-found found (none .1))

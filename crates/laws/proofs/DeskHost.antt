@@ -8,7 +8,7 @@ use lib.IntN.{ℤ, pos}
 use Rattle.rules.specs.declared.Limit.the-variants.{Absent, At}
 use Rattle.rules.specs.declared.Verdict.the-variants.{Accepted, Rejected}
 use Rattle.rules.specs.declared.Refusal.{Refusal}
-use Rattle.rules.specs.declared.Refusal.the-variants.{Size, Version, Flags, Count, Range, Unlimited, Crossed, Room, Number}
+use Rattle.rules.specs.declared.Refusal.the-variants.{Size, Version, Flags, Count, Range, Unlimited, Crossed, Room, Number, NoColumn}
 use Rattle.rules.specs.declared.host.HostRefusal.{HostRefusal}
 use Rattle.rules.specs.declared.host.HostLot.{HostLot}
 use Rattle.rules.specs.declared.host.HostPair.{HostPair}
@@ -19,7 +19,7 @@ use Rattle.rules.specs.Mixture.{density-pairs, mixture-limits}
 use Rattle.rules.specs.Refusals.{number-of}
 use Rattle.rules.specs.Notebook.{lent-limit}
 use Rattle.rules.specs.Entries.{read-says, read-leaves, beside, held}
-use Rattle.rules.specs.Host.{host-mean, host-deviation, host-percentages, host-payment, host-mixture-limits, held-lot, host-lot, host-read, host-written}
+use Rattle.rules.specs.Host.{host-mean, host-deviation, host-percentages, host-payment, host-mixture-limits, held-lot, host-lot, host-read, host-written, host-listed}
 use Rattle.laws.specs.Desk.{at, asked}
 
 -- Presence 0 is absent and its number unread; any other is present.
@@ -29,7 +29,7 @@ absent-is-unread y z = refl
 pub other-is-present : (z : ℤ) (presence : ℕ) → lent-limit z (suc presence) ≡ At (thousandths z)
 other-is-present z presence = rw (eqb·suc-zero presence)
 
--- A lot as a host holds it: ten places, an upper limit, and a lower one's number and presence.
+-- A lot as a host holds it: all its places, an upper limit, and a lower one's number and presence.
 abbrev numbers : ℕ → ℤ → ℕ → HostLot
 numbers count lower presence =
     record {
@@ -46,16 +46,23 @@ numbers count lower presence =
       eighth = pos 8;
       ninth = pos 9;
       tenth = pos 10;
+      eleventh = pos 11;
+      twelfth = pos 12;
+      thirteenth = pos 13;
+      fourteenth = pos 14;
+      fifteenth = pos 15;
+      sixteenth = pos 16;
+      seventeenth = pos 17;
     }
 
 pub lot-is-given : lot-in (held-lot (numbers 4 (pos 7) 0)) ≡ lot-of (at 21) Absent (pos 1 ∷ pos 2 ∷ pos 3 ∷ pos 4 ∷ [])
 lot-is-given = refl
 
-pub lot-is-handed-back : host-lot (held-lot (numbers 10 (pos 7) 2)) ≡ numbers 10 (pos 7) 1
+pub lot-is-handed-back : host-lot (held-lot (numbers 17 (pos 7) 2)) ≡ numbers 17 (pos 7) 1
 unfolding host-lot
 lot-is-handed-back = refl
 
-pub absent-is-handed-back : host-lot (held-lot (numbers 10 (pos 7) 0)) ≡ numbers 10 (pos 0) 0
+pub absent-is-handed-back : host-lot (held-lot (numbers 17 (pos 7) 0)) ≡ numbers 17 (pos 0) 0
 unfolding host-lot
 absent-is-handed-back = refl
 
@@ -79,6 +86,13 @@ nothing =
       eighth = pos 0;
       ninth = pos 0;
       tenth = pos 0;
+      eleventh = pos 0;
+      twelfth = pos 0;
+      thirteenth = pos 0;
+      fourteenth = pos 0;
+      fifteenth = pos 0;
+      sixteenth = pos 0;
+      seventeenth = pos 0;
     }
 
 pub refused-read-is-nothing : (bs : List ℕ) (r : Refusal) → read-says bs ≡ refused r → host-read (read-leaves bs) ≡ record { refusal = numbered (number-of r); lot = nothing }
@@ -122,7 +136,10 @@ mixture-limits-are-given = (refl, refl)
 pub written-is-given : (host-written (refused Room) ≡ record { refusal = numbered 8; size = 0 }) × (host-written (answers 29) ≡ record { refusal = numbered 0; size = 29 })
 written-is-given = (refl, refl)
 
--- Document 01's numbers of refusal, 0 for none.
+pub listed-is-given : (host-listed (refused Number) ≡ record { refusal = numbered 9; items = 0 }) × (host-listed (answers 409) ≡ record { refusal = numbered 0; items = 409 })
+listed-is-given = (refl, refl)
+
+-- The numbers of refusal, 0 for none.
 pub refusal-is-asked :
     (asked {A = ℕ} (refused Size) ≡ 1) ×
     (asked {A = ℕ} (refused Version) ≡ 2) ×
@@ -133,5 +150,6 @@ pub refusal-is-asked :
     (asked {A = ℕ} (refused Crossed) ≡ 7) ×
     (asked {A = ℕ} (refused Room) ≡ 8) ×
     (asked {A = ℕ} (refused Number) ≡ 9) ×
+    (asked {A = ℕ} (refused NoColumn) ≡ 10) ×
     (asked {A = ℕ} (answers 7) ≡ 0)
-refusal-is-asked = (refl, refl, refl, refl, refl, refl, refl, refl, refl, refl)
+refusal-is-asked = (refl, refl, refl, refl, refl, refl, refl, refl, refl, refl, refl)

@@ -13,13 +13,14 @@ use Rattle.rules.specs.declared.PayAnswer.{PayAnswer}
 use Rattle.rules.specs.declared.MixtureAnswer.{MixtureAnswer}
 use Rattle.rules.specs.declared.ReadAnswer.{ReadAnswer}
 use Rattle.rules.specs.declared.WriteAnswer.{WriteAnswer}
+use Rattle.rules.specs.declared.ListAnswer.{ListAnswer}
 use Rattle.rules.specs.declared.Limit.{Limit}
 use Rattle.rules.specs.declared.RowAnswer.{RowAnswer}
 use Rattle.rules.specs.Said.{Said, Case, checked}
 use Rattle.rules.specs.Lot.{Lot}
-use Rattle.rules.specs.Answers.{totals-said, outcome-said, mean-said, deviation-said, evaluation-said, pay-said, mixture-said, read-said, write-said, row-said}
-use Rattle.rules.specs.Entries.{mean-says, deviation-says, evaluation-says, pay-says, mixture-says, read-leaves, write-says, after-write, row-says}
-use Rattle.laws.proofs.Answers.{totals-injective, outcome-injective, mean-injective, deviation-injective, evaluation-injective, pay-injective, mixture-injective, read-injective, write-injective, row-injective}
+use Rattle.rules.specs.Answers.{totals-said, outcome-said, mean-said, deviation-said, evaluation-said, pay-said, mixture-said, read-said, write-said, list-said, row-said}
+use Rattle.rules.specs.Entries.{mean-says, deviation-says, evaluation-says, pay-says, mixture-says, read-leaves, write-says, after-write, cut-says, after-cut, row-says}
+use Rattle.laws.proofs.Answers.{totals-injective, outcome-injective, mean-injective, deviation-injective, evaluation-injective, pay-injective, mixture-injective, read-injective, write-injective, list-injective, row-injective}
 
 pub outcome-determined : (cases : List Case) (r q : Outcome) → outcome-said r ≡ checked cases → outcome-said q ≡ checked cases → r ≡ q
 outcome-determined cases r q e f = outcome-injective r q (e ∙ sym f)
@@ -47,6 +48,13 @@ pub write-determined :
     (write-said r ≡ write-says lot out) × (after ≡ after-write lot out) → (write-said q ≡ write-says lot out) × (other ≡ after-write lot out) →
     (r ≡ q) × (after ≡ other)
 write-determined lot out r q after other e f = (write-injective r q (e .0 ∙ sym (f .0)), e .1 ∙ sym (f .1))
+
+-- The cut's promise likewise determines every number of the lent list.
+pub cut-determined :
+    (sublots : ℕ) (out : List ℕ) (r q : ListAnswer) (after other : List ℕ) →
+    (list-said r ≡ cut-says sublots out) × (after ≡ after-cut sublots out) → (list-said q ≡ cut-says sublots out) × (other ≡ after-cut sublots out) →
+    (r ≡ q) × (after ≡ other)
+cut-determined sublots out r q after other e f = (list-injective r q (e .0 ∙ sym (f .0)), e .1 ∙ sym (f .1))
 
 pub pay-determined :
     (vma voids density price quantity : ℤ) (r q : PayAnswer) →

@@ -18,7 +18,7 @@ use Rattle.rules.specs.Answers.{evaluation-said}
 use Rattle.rules.specs.Entries.{percentages-of, column-for, evaluation-says}
 use Rattle.laws.specs.Column.{Column}
 use Rattle.laws.specs.Wider.{with-limits, UpperAsWide, LowerAsWide}
-use Rattle.laws.proofs.Table.{table-106-1-column}
+use Rattle.laws.proofs.Table.{table-106-1-column, table-106-1-counts}
 use Rattle.laws.proofs.Accepted.{answered}
 use Rattle.laws.proofs.Nearest.{nearest-row-rule, nearest-even-rule}
 use Rattle.laws.proofs.NoClamp.{no-clamp, sides-add-up}
@@ -30,7 +30,8 @@ pub answered-has-a-column : (lot : Lot) (p : Percentages) → evaluation-says lo
 unfolding evaluation-says
 answered-has-a-column lot p e =
     let h = answered nearest (column-for lot) lot p e in
-    table-106-1-column (lot .n) (h .0 .least) (h .0 .few)
+    let n = table-106-1-counts (lot .n) .0 (h .2) in
+    table-106-1-column (lot .n) (n .0) (n .1)
 
 -- Wider limits never lower the percentage.
 pub wider-answer-is-not-lower :

@@ -9,7 +9,7 @@ use Rattle.rules.specs.declared.Payment.{Payment}
 use Rattle.rules.specs.declared.MixtureLimits.{MixtureLimits}
 use Rattle.rules.specs.declared.Row.{Row}
 use Rattle.rules.specs.declared.Refusal.{Refusal}
-use Rattle.rules.specs.declared.Refusal.the-variants.{Size, Version, Flags, Count, Range, Unlimited, Crossed, Room, Number}
+use Rattle.rules.specs.declared.Refusal.the-variants.{Size, Version, Flags, Count, Range, Unlimited, Crossed, Room, Number, NoColumn}
 use Rattle.rules.specs.declared.host.HostRefusal.{HostRefusal}
 use Rattle.rules.specs.declared.host.HostMean.{HostMean}
 use Rattle.rules.specs.declared.host.HostDeviation.{HostDeviation}
@@ -18,13 +18,14 @@ use Rattle.rules.specs.declared.host.HostPayment.{HostPayment}
 use Rattle.rules.specs.declared.host.HostMixtureLimits.{HostMixtureLimits}
 use Rattle.rules.specs.declared.host.HostRead.{HostRead}
 use Rattle.rules.specs.declared.host.HostWritten.{HostWritten}
+use Rattle.rules.specs.declared.host.HostListed.{HostListed}
 use Rattle.rules.specs.declared.host.HostRow.{HostRow}
 use Rattle.rules.specs.Units.{thousandths}
 use Rattle.rules.specs.Said.{Said, refused, answers}
 use Rattle.rules.specs.Lot.{Lot}
 use Rattle.rules.specs.Refusals.{number-of}
 use Rattle.rules.specs.Entries.{beside}
-use Rattle.rules.specs.Host.{refusal-part, no-refusal, host-refusal, host-mean, host-deviation, host-percentages, host-payment, host-mixture-limits, host-read, host-written, host-row}
+use Rattle.rules.specs.Host.{refusal-part, no-refusal, host-refusal, host-mean, host-deviation, host-percentages, host-payment, host-mixture-limits, host-read, host-written, host-listed, host-row}
 use Rattle.laws.specs.Given.{ZeroWhenAnswered, given-percentages, given-row-of}
 
 -- No refusal has the number 0.
@@ -38,6 +39,7 @@ some-number Unlimited e = omega arith
 some-number Crossed e = omega arith
 some-number Room e = omega arith
 some-number Number e = omega arith
+some-number NoColumn e = omega arith
 
 pub refusal-is-zero : {A : Type 0} (said : Said A) → ZeroWhenAnswered (host-refusal said) said
 refusal-is-zero (refused r) = (λ e. absurd (some-number r e), λ a. absurd (let z : _≡_ {A = ℕ} 0 1 = cc (a .1) in omega arith))
@@ -74,6 +76,9 @@ zero-in-mixture-limits = zero-if-answered host-mixture-limits (λ (r : HostMixtu
 
 pub zero-in-written : (said : Said ℕ) (r : HostWritten) → r ≡ host-written said → ZeroWhenAnswered (r .refusal) said
 zero-in-written = zero-if-answered host-written (λ (r : HostWritten). r .refusal) (λ r. refl) (λ a. refl)
+
+pub zero-in-listed : (said : Said ℕ) (r : HostListed) → r ≡ host-listed said → ZeroWhenAnswered (r .refusal) said
+zero-in-listed = zero-if-answered host-listed (λ (r : HostListed). r .refusal) (λ r. refl) (λ a. refl)
 
 pub zero-in-row : (said : Said Row) (r : HostRow) → r ≡ host-row said → ZeroWhenAnswered (r .refusal) said
 zero-in-row = zero-if-answered host-row (λ (r : HostRow). r .refusal) (λ r. refl) (λ a. refl)

@@ -1,4 +1,7 @@
 pub mod Lists
+pub mod Job
+pub mod JobLots
+pub mod JobNumbers
 pub mod Ratio
 pub mod Value
 pub mod Root

@@ -1,8 +1,10 @@
 -- A list, as a loop fills it.
-use mathlib.Core.Path.{_≡_, sym, ap₂, _∙_}
+use mathlib.Core.Path.{_≡_, refl, sym, ap, ap₂, _∙_}
 use mathlib.Core.List.{List, [], _∷_, _++_, map}
-use Prim.Native.Nat.{ℕ, suc, _<_}
-use lib.ListN.{length, length-map, List·getD-map, take, getD, set}
+use Prim.Native.Nat.{ℕ, zero, suc, _<_}
+use native.Mathlib.Nat.{le-of-suc-le-suc}
+use native.Mathlib.Omega.{arith}
+use lib.ListN.{length, length-map, List·getD-map, take, drop, getD, set}
 use lib.Seq.{take-suc, take-suc-set}
 
 -- If the first i places of ys hold f of the elements of xs, and place i is set to f of element i, then the first i + 1 places do.
@@ -12,3 +14,10 @@ made-suc {B = B} f xs ys i d h k e =
     take-suc-set ys i (f (getD xs i d)) k
     ∙ ap₂ (λ (zs : List B) (z : B). zs ++ (z ∷ [])) e (sym (List·getD-map f xs i d))
     ∙ sym (take-suc (map f xs) i (f d) there)
+
+-- If a list begins with the first k elements of `new` and goes on as `old`, and place k is set to element k of `new`, then it begins with the first k + 1.
+pub filled-suc : {A : Type 0} (new old : List A) (d : A) (k : ℕ) → k < length new → k < length old → set (take k new ++ drop k old) k (getD new k d) ≡ take (suc k) new ++ drop (suc k) old
+filled-suc [] old d k h j = absurd (omega arith)
+filled-suc (x ∷ new) [] d k h j = absurd (omega arith)
+filled-suc (x ∷ new) (y ∷ old) d zero h j = refl
+filled-suc {A} (x ∷ new) (y ∷ old) d (suc k) h j = ap (λ (zs : List A). x ∷ zs) (filled-suc new old d k (le-of-suc-le-suc h) (le-of-suc-le-suc j))

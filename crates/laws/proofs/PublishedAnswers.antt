@@ -34,7 +34,7 @@ use Rattle.laws.specs.Moved.{Counted}
 use Rattle.laws.specs.PublishedIndex.{published-mean, published-deviation}
 use Rattle.laws.specs.AsPublished.{ByTable106-1}
 use Rattle.laws.specs.Given.{given-percentages}
-use Rattle.laws.proofs.Table.{table-106-1-found}
+use Rattle.laws.proofs.Table.{table-106-1-found, table-106-1-counts}
 use Rattle.laws.proofs.Accepted.{readings-accepted, answered}
 use Rattle.laws.proofs.Ruled.{ruled-answers}
 use Rattle.laws.proofs.Lots.{lot-of-counted, lot-in-counted}
@@ -48,10 +48,11 @@ use Rattle.laws.proofs.Given.{mean-given, deviation-given, percentages-
 of-lot : (lot : Lot) (p : Percentages) → Counted lot → evaluation-says lot ≡ answers p → ByTable106-1 (lot .upper) (lot .lower) (lot .readings) p
 unfolding evaluation-says
 of-lot lot p counted e =
-    let h = answered nearest (column-for lot) lot p e .0 in
+    let h = answered nearest (column-for lot) lot p e in
+    let n = table-106-1-counts (lot .n) .0 (h .2) in
     record {
       column = entries (column-for lot);
-      found = rw (counted (h .few)) (table-106-1-found (lot .n) (h .least) (h .few));
+      found = rw (counted (h .0 .few)) (table-106-1-found (lot .n) (n .0) (n .1));
       published = evaluated-as-published (column-for lot) lot p counted e;
     }
 

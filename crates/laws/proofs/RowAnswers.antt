@@ -1,6 +1,6 @@
 -- Any row of the notebook that the promises of `notebook::row` and `tulpavice_row` allow is as published (demand 2).
 use mathlib.Core.Path.{_≡_, refl, sym, ap, _∙_}
-use mathlib.Core.List.{List}
+use mathlib.Core.List.{List, _++_}
 use Prim.Native.Nat.{ℕ, _/_}
 use native.Mathlib.Omega.{arith}
 use borrow.Author.Tests.{not-false}
@@ -13,18 +13,19 @@ use Rattle.rules.specs.declared.RowAnswer.{RowAnswer}
 use Rattle.rules.specs.declared.host.HostRow.{HostRow}
 use Rattle.rules.specs.Said.{answers, checked}
 use Rattle.rules.specs.Lot.{Lot, lot-of}
-use Rattle.rules.specs.Table.{entries}
+use Rattle.rules.specs.Table.{Found, entries}
 use Rattle.rules.specs.Percent.{nearest, sum}
 use Rattle.rules.specs.Record.{fours}
 use Rattle.rules.specs.Refusals.{size-fits, bytes-count-case}
-use Rattle.rules.specs.Meets.{lot-meets, counted-meets, evaluation-meets, row-meets}
+use Rattle.rules.specs.Meets.{lot-meets, counted-meets, column-meets, evaluation-meets, row-meets}
 use Rattle.rules.specs.Notebook.{lent-limit, lent-lot, row-of}
 use Rattle.rules.specs.Answers.{row-said}
 use Rattle.rules.specs.Entries.{deviation-of, column-for, percentages, evaluated, evaluation-says, row-says}
 use Rattle.rules.specs.Host.{given-row, host-row}
 use Rattle.laws.specs.AsPublished.{RowAsPublished}
 use Rattle.laws.specs.Given.{given-row-of}
-use Rattle.laws.proofs.Ruled.{ruled-answers, ruled-unrefused, none-met}
+use Rattle.laws.specs.Totalled.{by-table}
+use Rattle.laws.proofs.Ruled.{ruled-answers, ruled-unrefused, none-met, none-of-either}
 use Rattle.laws.proofs.Accepted.{lot-accepted}
 use Rattle.laws.proofs.Lent.{lent-lot-is-listed, fitting-meets}
 use Rattle.laws.proofs.PublishedIndex.{mean-is}
@@ -42,13 +43,14 @@ module _ (upper lower : Limit) (bs : List ℕ) where
   abbrev xs : List ℤ
   xs = fours (length bs / 4) bs
 
-  -- A row that is answered is the row of the lot of those numbers, and that lot is not refused.
-  row-answered : (row : Row) → row-says upper lower bs ≡ answers row → (checked (counted-meets (lot-of upper lower xs)) ≡ answers tt) × (row-of-lot (lot-of upper lower xs) ≡ row)
+  -- A row that is answered is the row of the lot of those numbers, and that lot is not refused a percentage.
+  row-answered : (row : Row) → row-says upper lower bs ≡ answers row → (checked (by-table (lot-of upper lower xs)) ≡ answers tt) × (row-of-lot (lot-of upper lower xs) ≡ row)
   unfolding row-says row-meets
   row-answered row e =
       let lot : Lot = lent-lot upper lower bs in
-      let r = ruled-answers (row-meets bs lot) (row-of-lot lot) row e in
-      let fits = not-false (size-fits (length bs)) (none-met (bytes-count-case bs) (lot-meets lot) (r .0) .0) in
+      let found : Found = column-for lot in
+      let r = ruled-answers (row-meets bs found lot) (row-of-lot lot) row e in
+      let fits = not-false (size-fits (length bs)) (none-met (bytes-count-case bs) (lot-meets lot ++ column-meets found) (r .0) .0) in
       (sym (fitting-meets upper lower bs tt fits) ∙ r .0, ap row-of-lot (sym (lent-lot-is-listed upper lower bs)) ∙ r .1)
 
   pub row-answer-is-published : (row : Row) → row-said (RowAnswer.Answers row) ≡ row-says upper lower bs → RowAsPublished upper lower xs row
@@ -57,7 +59,7 @@ module _ (upper lower : Limit) (bs : List ℕ) where
       let lot : Lot = lot-of upper lower xs in
       let r = row-answered row (sym e) in
       let p : Percentages = percentages nearest (entries (column-for lot)) lot in
-      let ok = lot-accepted lot (r .0) in
+      let ok = lot-accepted lot (none-of-either (counted-meets lot) (column-meets (column-for lot)) (r .0) .0) in
       rw (sym (r .1))
       (record {
         total = sum xs;
@@ -67,7 +69,7 @@ module _ (upper lower : Limit) (bs : List ℕ) where
         deviation = deviation-is-nearest xs (ok .least);
         deviation-double = refl;
         percentages = p;
-        by-the-table = answer-is-published upper lower xs p (sym (ruled-unrefused (counted-meets lot) p (r .0)));
+        by-the-table = answer-is-published upper lower xs p (sym (ruled-unrefused (by-table lot) p (r .0)));
         pwl-double = refl;
       })
 

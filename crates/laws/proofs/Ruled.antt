@@ -102,6 +102,16 @@ ruled-append (c ∷ cs) ds a = by (c .applies) (ruled-append cs ds a)
     by true later = refl
     by false later = later
 
+-- What passes a refusal on and has more cases for values says, of what some cases say, what all the cases say.
+pub ruled-then :
+    {A : Type 0} (cs ds : List Case) (a : A) (then : Said A → Said A) → ((r : Refusal) → then (refused r) ≡ refused r) → then (answers a) ≡ ruled ds a →
+    then (ruled cs a) ≡ ruled (cs ++ ds) a
+ruled-then cs ds a then on more = ap then (ruled-given cs a) ∙ by (checked cs) ∙ sym (ruled-append cs ds a)
+  where
+    by : (s : Said (Unit {0})) → then (given a s) ≡ before (ruled ds a) s
+    by (refused r) = on r
+    by (answers u) = more
+
 -- For two lists of cases, one after the other: a refusal of the first list is given, and where it gives none, the second list decides.
 pub ruled-first : {A : Type 0} (cs ds : List Case) (a : A) {r : Refusal} → checked cs ≡ refused r → ruled (cs ++ ds) a ≡ refused r
 ruled-first cs ds a e = ruled-append cs ds a ∙ ap (before (ruled ds a)) e

@@ -1,15 +1,16 @@
 -- Table 106-1 is well formed, by one computed test over all of it; and what holds at any row of a well-formed column.
-use mathlib.Core.Path.{_≡_}
-use mathlib.Core.Bool.{Bool, _&&_}
+use mathlib.Core.Path.{_≡_, refl, _∙_, sym}
+use mathlib.Core.Bool.{Bool, true, false, cond, _&&_, and-eq-true-iff}
+use mathlib.Core.Logic.{_↔_}
 use mathlib.Core.List.{List, [], _∷_}
 use Prim.Native.Nat.{ℕ, zero, suc, _≤_, _<_}
 use native.Mathlib.Nat.{le-refl, le-trans, le-of-suc-le-suc}
 use native.Mathlib.Omega.{arith}
-use borrow.Author.Tests.{le-leb}
+use borrow.Author.Tests.{le-leb, leb-true}
 use lib.Dec.{T, leb, eqb, leb→le, eqb→eq}
 use lib.Ieee.Fits.{and-l, and-r}
 use lib.ListN.{length, getD}
-use Rattle.rules.specs.Table.{a-column, rows, table-106-1, entries, entry, last-row, rises-from, well-formed, column-four}
+use Rattle.rules.specs.Table.{Found, no-column, a-column, rows, table-106-1, has-column, entries, entry, last-row, rises-from, well-formed, column-four}
 use Rattle.laws.specs.Column.{Column}
 use Rattle.laws.proofs.Each.{each, each-at}
 
@@ -62,6 +63,21 @@ table-106-1-column n low high =
 pub table-106-1-found : (n : ℕ) → 2 ≤ n → n ≤ 10 → table-106-1 n ≡ a-column (entries (table-106-1 n))
 unfolding table-106-1
 table-106-1-found n low high = rw (le-leb 2 n low, le-leb n 10 high)
+
+-- There is a column for no other count.
+pub table-106-1-has : (n : ℕ) → has-column (table-106-1 n) ≡ (leb 2 n && leb n 10)
+unfolding table-106-1
+table-106-1-has n = by _ (leb 2 n && leb n 10)
+  where
+    by : (column : List ℕ) (b : Bool) → has-column (cond b (a-column column) no-column) ≡ b
+    by column true = refl
+    by column false = refl
+
+pub table-106-1-counts : (n : ℕ) → (has-column (table-106-1 n) ≡ true) ↔ ((2 ≤ n) × (n ≤ 10))
+table-106-1-counts n = (
+  λ e. let h = and-eq-true-iff (leb 2 n) (leb n 10) .0 (sym (table-106-1-has n) ∙ e) in (leb-true 2 n (h .0), leb-true n 10 (h .1)),
+  λ h. rw (table-106-1-has n, le-leb 2 n (h .0), le-leb n 10 (h .1)) refl,
+)
 
 -- Column n = 4 is what its formula says, at each of the 54 rows.
 fourth-column : T (each (λ k. eqb (entry (entries (table-106-1 4)) k) (column-four k)) (suc last-row) 0)

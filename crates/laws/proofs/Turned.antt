@@ -53,9 +53,9 @@ limits-turned : (upper lower : Limit) → (out-of-range (turned-limit lower) || 
 limits-turned upper lower = rw (limit-turned lower, limit-turned upper) (or-comm (out-of-range lower) (out-of-range upper))
 
 -- Each refusal applies to the turned lot exactly when it applies to the lot.
-meets-turned : (lot : Lot) → evaluation-meets (turned lot) ≡ evaluation-meets lot
+meets-turned : (found : Found) (lot : Lot) → evaluation-meets found (turned lot) ≡ evaluation-meets found lot
 unfolding evaluation-meets
-meets-turned lot =
+meets-turned found lot =
     let upper : Limit = lot .upper in
     let lower : Limit = lot .lower in
     rw (limits-turned upper lower, any-out-turned (lot .readings), none-turned upper lower, crossed-turned upper lower)
@@ -99,4 +99,4 @@ pub turning-swaps-sides :
     evaluated rule found (turned lot) ≡ said-swapped (evaluated rule found lot)
 unfolding evaluated
 turning-swaps-sides rule found lot =
-    ap₂ (λ (cases : List Case) (p : Percentages). ruled cases p) (meets-turned lot) (percentages-turned rule (entries found) lot) ∙ ruled-swapped (evaluation-meets lot) (percentages rule (entries found) lot)
+    ap₂ (λ (cases : List Case) (p : Percentages). ruled cases p) (meets-turned found lot) (percentages-turned rule (entries found) lot) ∙ ruled-swapped (evaluation-meets found lot) (percentages rule (entries found) lot)

@@ -27,3 +27,4 @@ pub mod Bytes
 pub mod Head
 pub mod Desk
 pub mod Totalled
+pub mod Job

@@ -15,7 +15,9 @@ use Rattle.rules.specs.Said.{Said, refused, answers, Case, ruled}
 use Rattle.rules.specs.Lot.{Lot, in-places}
 use Rattle.rules.specs.Percent.{totals}
 use Rattle.rules.specs.Refusals.{out-of-range, any-out, range-case}
-use Rattle.rules.specs.Meets.{readings-meet, limits-meet}
+use Rattle.rules.specs.Table.{table-106-1}
+use Rattle.rules.specs.Meets.{readings-meet, limits-meet, column-meets, evaluation-meets, row-meets}
+use Rattle.rules.specs.Entries.{column-for}
 
 -- One reading x more in T and Z; n, the count of all readings, stays.
 abbrev pub with-reading : Totals → ℤ → Totals
@@ -47,9 +49,21 @@ unfoldable pub with-limits-say : Limit → Limit → Said Totals → Said Totals
 with-limits-say upper lower said =
     cond (out-of-range upper || out-of-range lower) (refused Range) (limited-say upper lower said)
 
+-- Where a percentage is asked for, after all else: the refusal if there is one, then refusal 10 where Table 106-1 has no column for n, else the totals.
+abbrev pub with-column-say : Said Totals → Said Totals
+with-column-say (refused r) = refused r
+with-column-say (answers a) = ruled (column-meets (table-106-1 (a .n))) a
+
 -- A lot's totals, and what is said of them: the first refusal that applies of the cases `meets lot`, or the totals.
 abbrev pub lot-totals : Lot → Totals
 lot-totals lot = totals (lot .n) (lot .readings)
 
 unfoldable pub totalled : (Lot → List Case) → Lot → Said Totals
 totalled meets lot = ruled (meets lot) (lot-totals lot)
+
+-- What an evaluation by Table 106-1 meets, and what the row of some bytes meets by it.
+abbrev pub by-table : Lot → List Case
+by-table lot = evaluation-meets (column-for lot) lot
+
+abbrev pub row-by-table : List ℕ → Lot → List Case
+row-by-table bs lot = row-meets bs (column-for lot) lot

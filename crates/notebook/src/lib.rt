@@ -4,6 +4,7 @@ use host::UNREFUSED;
 use host::refused;
 use lots::met;
 use quality::percentages;
+use quality::with_column;
 use readings::rounded;
 use readings::spread;
 use refusals::allowed;
@@ -15,20 +16,19 @@ use rules::Totals;
 use rules::TotalsAnswer;
 use rules::host::HostRefusal;
 ghost use mathlib.Core.Path.{_≡_};
-ghost use mathlib.Core.Bool.{false};
+ghost use mathlib.Core.Bool.{true, false};
 ghost use Prim.Native.Nat.{_*_};
 ghost use lib.IntN.{pos};
-ghost use Rattle.rules.specs.Table.{table-106-1, entries};
+ghost use Rattle.rules.specs.Table.{table-106-1, has-column, entries};
 ghost use Rattle.rules.specs.Percent.{nearest, spread};
 ghost use Rattle.rules.specs.Deviation.{deviation};
 ghost use Rattle.rules.specs.Refusals.{out-of-range, size-fits};
-ghost use Rattle.rules.specs.Meets.{row-meets};
 ghost use Rattle.rules.specs.Notebook.{lent-lot, over, mean-asked, deviation-asked, pwl-asked};
 ghost use Rattle.rules.specs.Answers.{totals-said, row-said};
 ghost use Rattle.rules.specs.Entries.{percentages-of, row-says};
 ghost use Rattle.rules.specs.Host.{host-refusal};
 ghost use Rattle.laws.specs.Bounds.{Bounded};
-ghost use Rattle.laws.specs.Totalled.{totalled};
+ghost use Rattle.laws.specs.Totalled.{totalled, row-by-table};
 
 // Each double of a refused lot.
 const REFUSED: f64 = 0.0;
@@ -40,14 +40,14 @@ fn size_fits(size: usize) -> bool
     (size % 4 == 0) & allowed(size / 4)
 }
 
-// The totals of a lot whose readings come as bytes, or the refusal that it meets: 4 to 7.
+// The totals of a lot whose readings come as bytes, or the refusal that its row meets: 4 to 7 or 10.
 fn lent(bytes: &[u8], upper: Limit, lower: Limit) -> TotalsAnswer
-    ensures { λ r. ⌜ totals-said r ≡ totalled (row-meets (now (bytes .entry))) (lent-lot upper lower (now (bytes .entry))) ⌝ }
+    ensures { λ r. ⌜ totals-said r ≡ totalled (row-by-table (now (bytes .entry))) (lent-lot upper lower (now (bytes .entry))) ⌝ }
 {
     if size_fits(bytes.len()) {
         let walked = walk(bytes, bytes.len() / 4);
         let said = walked.said;
-        met(said, upper, lower)
+        with_column(met(said, upper, lower))
     } else {
         TotalsAnswer::Refused(Refusal::Count)
     }
@@ -69,7 +69,7 @@ fn deviation_of(a: Totals) -> f64
 }
 
 fn pwl_of(a: Totals, upper: Limit, lower: Limit) -> f64
-    requires { ⌜ Bounded a × (out-of-range upper ≡ false) × (out-of-range lower ≡ false) ⌝ }
+    requires { ⌜ Bounded a × (out-of-range upper ≡ false) × (out-of-range lower ≡ false) × (has-column (table-106-1 (a .n)) ≡ true) ⌝ }
     ensures { λ r. ⌜ r ≡ over (percentages-of nearest (entries (table-106-1 (a .n))) a upper lower .pwl .0) 100 ⌝ }
 {
     let p = percentages(a, upper, lower);

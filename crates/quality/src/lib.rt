@@ -9,21 +9,23 @@ use rules::HeldLot;
 use rules::Hundredths;
 use rules::Limit;
 use rules::Percentages;
+use rules::Refusal;
 use rules::Totals;
 use rules::TotalsAnswer;
 use side::lower_side;
 use side::upper_side;
 ghost use mathlib.Core.Path.{_≡_};
-ghost use mathlib.Core.Bool.{false};
+ghost use mathlib.Core.Bool.{true, false};
 ghost use Rattle.rules.specs.Lot.{lot-of, lot-in};
-ghost use Rattle.rules.specs.Table.{table-106-1, entries, column-in};
+ghost use Rattle.rules.specs.Table.{table-106-1, has-column, entries, column-in};
 ghost use Rattle.rules.specs.Percent.{nearest, within};
 ghost use Rattle.rules.specs.Refusals.{out-of-range};
-ghost use Rattle.rules.specs.Answers.{evaluation-said};
+ghost use Rattle.rules.specs.Answers.{totals-said, evaluation-said};
 ghost use Rattle.rules.specs.Entries.{percentages-of, evaluation-says};
 ghost use Rattle.laws.specs.ColumnIn.{ColumnIn};
 ghost use Rattle.laws.specs.Bounds.{Bounded};
 ghost use Rattle.laws.specs.InPercent.{InPercent};
+ghost use Rattle.laws.specs.Totalled.{with-column-say};
 
 // PWL = upper + lower − 10,000
 fn within(upper: Hundredths, lower: Hundredths) -> Hundredths
@@ -48,10 +50,26 @@ fn by_column(column: &[u8], a: Totals, upper: Limit, lower: Limit) -> Percentage
     }
 }
 
+// What is said of a lot before its percentages are asked for; or 10, where all else is in order and Table 106-1 has no column for the count.
+pub fn with_column(said: TotalsAnswer) -> TotalsAnswer
+    ensures { λ r. ⌜ totals-said r ≡ with-column-say (totals-said said) ⌝ }
+{
+    match said {
+        TotalsAnswer::Refused(refusal) => TotalsAnswer::Refused(refusal),
+        TotalsAnswer::Answers(a) => {
+            if table::has_column(a.n as usize) {
+                TotalsAnswer::Answers(a)
+            } else {
+                TotalsAnswer::Refused(Refusal::NoColumn)
+            }
+        }
+    }
+}
+
 // Both sides and PWL, by Table 106-1's column for the count, which is looked up here, once.
-// Inner: the entries pass totals and limits of a lot that is not refused.
+// Inner: the entries pass totals and limits of a lot that is not refused and has a column.
 pub fn percentages(a: Totals, upper: Limit, lower: Limit) -> Percentages
-    requires { ⌜ Bounded a × (out-of-range upper ≡ false) × (out-of-range lower ≡ false) ⌝ }
+    requires { ⌜ Bounded a × (out-of-range upper ≡ false) × (out-of-range lower ≡ false) × (has-column (table-106-1 (a .n)) ≡ true) ⌝ }
     ensures { λ r. ⌜ r ≡ percentages-of nearest (entries (table-106-1 (a .n))) a upper lower ⌝ }
 {
     let column = table::column(a.n as usize);
@@ -62,7 +80,7 @@ pub fn percentages(a: Totals, upper: Limit, lower: Limit) -> Percentages
 pub fn evaluate(readings: &[i32], upper: Limit, lower: Limit) -> Evaluation
     ensures { λ r. ⌜ evaluation-said r ≡ evaluation-says (lot-of upper lower (now (readings .entry))) ⌝ }
 {
-    match lots::lent(readings, upper, lower) {
+    match with_column(lots::lent(readings, upper, lower)) {
         TotalsAnswer::Refused(refusal) => Evaluation::Refused(refusal),
         TotalsAnswer::Answers(a) => Evaluation::Answers(percentages(a, upper, lower)),
     }
@@ -72,7 +90,7 @@ pub fn evaluate(readings: &[i32], upper: Limit, lower: Limit) -> Evaluation
 pub fn evaluate_held(lot: HeldLot) -> Evaluation
     ensures { λ r. ⌜ evaluation-said r ≡ evaluation-says (lot-in lot) ⌝ }
 {
-    match lots::held(lot) {
+    match with_column(lots::held(lot)) {
         TotalsAnswer::Refused(refusal) => Evaluation::Refused(refusal),
         TotalsAnswer::Answers(a) => {
             let upper = lot.upper;

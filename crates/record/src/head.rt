@@ -77,7 +77,7 @@ fn wrong_flags(bytes: &[u8]) -> bool
     }
 }
 
-// 4: n not 2 to 10, or the length isn't 11 + 4n.
+// 4: n not 2 to 17, or the length isn't 11 + 4n.
 fn wrong_count(bytes: &[u8]) -> bool
     requires { ⌜ head-size ≤ length (now bytes) ⌝ }
     ensures { λ r. ⌜ r ≡ record-count-case (now (bytes .entry)) .applies ⌝ }

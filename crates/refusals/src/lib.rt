@@ -15,7 +15,7 @@ ghost use Rattle.rules.specs.Refusals.{allowed, out-of-range, outside, pay-case
 ghost use Rattle.rules.specs.Meets.{limits-meet, pay-meets};
 ghost use Rattle.rules.specs.Answers.{outcome-said};
 
-// n is 2 to 10.
+// n is 2 to 17.
 pub fn allowed(n: usize) -> bool
     ensures { λ r. ⌜ r ≡ allowed n ⌝ }
 {

@@ -16,6 +16,7 @@ use Rattle.rules.specs.declared.HeldLot.{HeldLot}
 use Rattle.rules.specs.declared.Outcome.{Outcome}
 use Rattle.rules.specs.declared.ReadAnswer.{ReadAnswer}
 use Rattle.rules.specs.declared.WriteAnswer.{WriteAnswer}
+use Rattle.rules.specs.declared.ListAnswer.{ListAnswer}
 use Rattle.rules.specs.declared.Row.{Row}
 use Rattle.rules.specs.declared.RowAnswer.{RowAnswer}
 use Rattle.rules.specs.Said.{Said, refused, answers}
@@ -59,6 +60,10 @@ read-said r = record { said = outcome-said (r .said); lot = r .lot }
 abbrev pub write-said : WriteAnswer → Said ℕ
 write-said (WriteAnswer.Answers size) = answers size
 write-said (WriteAnswer.Refused r) = refused r
+
+abbrev pub list-said : ListAnswer → Said ℕ
+list-said (ListAnswer.Answers items) = answers items
+list-said (ListAnswer.Refused r) = refused r
 
 abbrev pub row-said : RowAnswer → Said Row
 row-said (RowAnswer.Answers row) = answers row

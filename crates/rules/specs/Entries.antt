@@ -22,7 +22,8 @@ use Rattle.rules.specs.Deviation.{deviation}
 use Rattle.rules.specs.Pay.{payment}
 use Rattle.rules.specs.Mixture.{mixture-limits}
 use Rattle.rules.specs.Record.{lot-of-record, record-of}
-use Rattle.rules.specs.Meets.{readings-meet, evaluation-meets, row-meets, read-meets, write-meets, pay-meets, mixture-meets}
+use Rattle.rules.specs.Job.{cut, item-numbers}
+use Rattle.rules.specs.Meets.{readings-meet, evaluation-meets, row-meets, read-meets, write-meets, pay-meets, mixture-meets, cut-meets}
 use Rattle.rules.specs.Notebook.{lent-lot, row-of}
 use Rattle.rules.specs.Answers.{ReadSaid}
 
@@ -57,7 +58,7 @@ module _ (rule : Rule) (column : List ℕ) where
 
 -- what direct evaluation says, by any rule for rows and by whatever column is found for the lot
 unfoldable pub evaluated : Rule → Found → Lot → Said Percentages
-evaluated rule found lot = ruled (evaluation-meets lot) (percentages rule (entries found) lot)
+evaluated rule found lot = ruled (evaluation-meets found lot) (percentages rule (entries found) lot)
 
 unfoldable pub evaluation-says : Lot → Said Percentages
 evaluation-says lot = evaluated nearest (column-for lot) lot
@@ -111,11 +112,21 @@ unfoldable pub mixture-says : ℤ → ℤ → ℤ → Said MixtureLimits
 mixture-says mixture minimum target =
     ruled (mixture-meets mixture minimum target) (mixture-limits mixture minimum target)
 
+-- ---- a job, cut into lots
+
+-- the number of items
+unfoldable pub cut-says : ℕ → List ℕ → Said ℕ
+cut-says sublots out = ruled (cut-meets sublots (length out)) (length (cut sublots))
+
+abbrev pub after-cut : ℕ → List ℕ → List ℕ
+after-cut sublots out = written (item-numbers (cut sublots)) out (cut-says sublots out)
+
 -- ---- the notebook's row
 
 unfoldable pub row-says : Limit → Limit → List ℕ → Said Row
 row-says upper lower bs =
     let lot : Lot = lent-lot upper lower bs in
-    ruled (row-meets bs lot)
+    let found : Found = column-for lot in
+    ruled (row-meets bs found lot)
     (row-of (sum (lot .readings)) (lot .n) (deviation-of (lot .n) (lot .readings))
-    (percentages nearest (entries (column-for lot)) lot .pwl .0))
+    (percentages nearest (entries found) lot .pwl .0))

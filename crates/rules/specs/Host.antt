@@ -28,6 +28,7 @@ use Rattle.rules.specs.declared.host.HostPair.{HostPair}
 use Rattle.rules.specs.declared.host.HostMixtureLimits.{HostMixtureLimits}
 use Rattle.rules.specs.declared.host.HostRead.{HostRead}
 use Rattle.rules.specs.declared.host.HostWritten.{HostWritten}
+use Rattle.rules.specs.declared.host.HostListed.{HostListed}
 use Rattle.rules.specs.declared.host.HostRow.{HostRow}
 use Rattle.rules.specs.Units.{thousandths}
 use Rattle.rules.specs.Said.{Said, refused, answers}
@@ -114,7 +115,9 @@ held-lot h =
       readings =
           map thousandths
           (h .first ∷ h .second ∷ h .third ∷ h .fourth ∷ h .fifth ∷
-          h .sixth ∷ h .seventh ∷ h .eighth ∷ h .ninth ∷ h .tenth ∷ []);
+          h .sixth ∷ h .seventh ∷ h .eighth ∷ h .ninth ∷ h .tenth ∷
+          h .eleventh ∷ h .twelfth ∷ h .thirteenth ∷ h .fourteenth ∷ h .fifteenth ∷
+          h .sixteenth ∷ h .seventeenth ∷ []);
     }
 
 -- a limit as a host's numbers
@@ -138,6 +141,13 @@ host-lot held =
       eighth = getD (places held) 7 (pos 0);
       ninth = getD (places held) 8 (pos 0);
       tenth = getD (places held) 9 (pos 0);
+      eleventh = getD (places held) 10 (pos 0);
+      twelfth = getD (places held) 11 (pos 0);
+      thirteenth = getD (places held) 12 (pos 0);
+      fourteenth = getD (places held) 13 (pos 0);
+      fifteenth = getD (places held) 14 (pos 0);
+      sixteenth = getD (places held) 15 (pos 0);
+      seventeenth = getD (places held) 16 (pos 0);
     }
 
 -- The blank lot that a refused read leaves has nothing but zeros.
@@ -147,6 +157,10 @@ host-read r = record { refusal = host-refusal (r .said); lot = host-lot (r .lot)
 abbrev pub host-written : Said ℕ → HostWritten
 host-written (refused r) = record { refusal = refusal-part r; size = 0 }
 host-written (answers size) = record { refusal = no-refusal; size = size }
+
+abbrev pub host-listed : Said ℕ → HostListed
+host-listed (refused r) = record { refusal = refusal-part r; items = 0 }
+host-listed (answers items) = record { refusal = no-refusal; items = items }
 
 -- The notebook's row in one answer: each double is the one that its own call gives.
 abbrev pub host-row : Said Row → HostRow

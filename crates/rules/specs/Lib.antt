@@ -2,6 +2,7 @@
 pub mod Units
 pub mod Said
 pub mod Lot
+pub mod Job
 pub mod Record
 pub mod Table
 pub mod Percent

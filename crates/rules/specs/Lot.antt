@@ -11,7 +11,7 @@ use Rattle.rules.specs.Units.{thousandths}
 
 -- the most readings that a lot can hold
 abbrev pub most : ℕ
-most = 10
+most = 17
 
 pub record Lot : Type 0 where
   pub n : ℕ

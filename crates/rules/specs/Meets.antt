@@ -1,4 +1,4 @@
--- Document 01, "Numbers of refusal": the refusals that each entry can meet, in the order in which they are looked for.
+-- Document 01, "Numbers of refusal", and document 02, R-1: the refusals that each entry can meet, in the order in which they are looked for.
 use mathlib.Core.List.{List, [], _∷_, _++_}
 use Prim.Native.Nat.{ℕ}
 use lib.IntN.{ℤ}
@@ -7,8 +7,10 @@ use Rattle.rules.specs.declared.Limit.{Limit}
 use Rattle.rules.specs.declared.Limit.the-variants.{Absent}
 use Rattle.rules.specs.Said.{Case}
 use Rattle.rules.specs.Lot.{Lot}
+use Rattle.rules.specs.Table.{Found}
+use Rattle.rules.specs.Job.{cut, item-numbers}
 use Rattle.rules.specs.Record.{lot-of-record, record-of}
-use Rattle.rules.specs.Refusals.{size-case, version-case, flags-case, count-case, record-count-case, bytes-count-case, range-case, unlimited-case, crossed-case, room-case, pay-case, mixture-case, offset-case}
+use Rattle.rules.specs.Refusals.{size-case, version-case, flags-case, count-case, record-count-case, bytes-count-case, range-case, unlimited-case, crossed-case, room-case, pay-case, mixture-case, offset-case, job-case, column-case}
 
 -- mean and deviation alone: 4 and 5
 unfoldable pub readings-meet : List ℤ → List Case
@@ -26,13 +28,21 @@ lot-meets lot = range-case (lot .upper) (lot .lower) (lot .readings) ∷ limits-
 abbrev pub counted-meets : Lot → List Case
 counted-meets lot = count-case (lot .n) ∷ lot-meets lot
 
--- direct evaluation: 4 to 7
-unfoldable pub evaluation-meets : Lot → List Case
-evaluation-meets lot = counted-meets lot
+-- where a percentage is asked for, last of all, by what is found for the lot: 10
+abbrev pub column-meets : Found → List Case
+column-meets found = column-case found ∷ []
 
--- the notebook's row, of readings as bytes: 4 to 7
-unfoldable pub row-meets : List ℕ → Lot → List Case
-row-meets bs lot = bytes-count-case bs ∷ lot-meets lot
+-- direct evaluation: 4 to 7 and 10
+unfoldable pub evaluation-meets : Found → Lot → List Case
+evaluation-meets found lot = counted-meets lot ++ column-meets found
+
+-- a lot whose readings come as bytes: 4 to 7
+abbrev pub bytes-meet : List ℕ → Lot → List Case
+bytes-meet bs lot = bytes-count-case bs ∷ lot-meets lot
+
+-- the notebook's row: 4 to 7 and 10
+unfoldable pub row-meets : List ℕ → Found → Lot → List Case
+row-meets bs found lot = bytes-meet bs lot ++ column-meets found
 
 -- what a record can meet before its lot: 1 to 4
 abbrev pub head-meets : List ℕ → List Case
@@ -53,3 +63,7 @@ pay-meets vma voids density price quantity = pay-case vma voids density price qu
 -- the mixture lookup: 5 and 9
 unfoldable pub mixture-meets : ℤ → ℤ → ℤ → List Case
 mixture-meets mixture minimum target = offset-case minimum target ∷ mixture-case mixture ∷ []
+
+-- the cut of a job, into a lent list of so many numbers: 9 and then 8
+unfoldable pub cut-meets : ℕ → ℕ → List Case
+cut-meets sublots room = job-case sublots ∷ room-case room (length (item-numbers (cut sublots))) ∷ []

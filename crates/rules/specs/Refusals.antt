@@ -1,4 +1,4 @@
--- Document 01, "Numbers of refusal": the table, a definition for each line of it.
+-- Document 01, "Numbers of refusal", as document 02, R-1, amends it: the table, a definition for each line of it.
 use mathlib.Core.Bool.{Bool, true, false, not, _&&_, _||_}
 use mathlib.Core.List.{List, [], _∷_}
 use Prim.Native.Nat.{ℕ, _/_, _%_, _-_}
@@ -10,10 +10,12 @@ use Rattle.rules.specs.declared.Limit.{Limit}
 use Rattle.rules.specs.declared.Limit.the-variants.{Absent, At}
 use Rattle.rules.specs.declared.Pair.{Pair}
 use Rattle.rules.specs.declared.Refusal.{Refusal}
-use Rattle.rules.specs.declared.Refusal.the-variants.{Size, Version, Flags, Count, Range, Unlimited, Crossed, Room, Number}
+use Rattle.rules.specs.declared.Refusal.the-variants.{Size, Version, Flags, Count, Range, Unlimited, Crossed, Room, Number, NoColumn}
 use Rattle.rules.specs.Units.{in-range, hundred-percent}
 use Rattle.rules.specs.Said.{Case}
 use Rattle.rules.specs.Lot.{most}
+use Rattle.rules.specs.Table.{Found, has-column}
+use Rattle.rules.specs.Job.{longest-job}
 use Rattle.rules.specs.Record.{length-field, version-field, flags-field, n-field, upper-field, lower-field, has-upper, has-lower, head-size, length-of, spelled}
 use Rattle.rules.specs.Mixture.{vma-pair, voids-pair}
 
@@ -28,6 +30,7 @@ number-of Unlimited = 6
 number-of Crossed = 7
 number-of Room = 8
 number-of Number = 9
+number-of NoColumn = 10
 
 abbrev pub given-when : Refusal → Bool → Case
 given-when refusal applies = record { refusal = refusal; applies = applies }
@@ -48,15 +51,15 @@ flags-case bs =
     || not (has-upper bs || eqb (spelled 0 (upper-field bs)) 0)
     || not (has-lower bs || eqb (spelled 0 (lower-field bs)) 0))
 
--- n is 2 to 10
+-- n is 2 to 17
 abbrev pub allowed : ℕ → Bool
 allowed n = leb 2 n && leb n most
 
--- 4: n not 2 to 10
+-- 4: n not 2 to 17
 abbrev pub count-case : ℕ → Case
 count-case n = given-when Count (not (allowed n))
 
--- 4, in a record: n not 2 to 10, or the length isn't 11 + 4n
+-- 4, in a record: n not 2 to 17, or the length isn't 11 + 4n
 abbrev pub record-count-case : List ℕ → Case
 record-count-case bs =
     given-when Count (not (allowed (n-field bs)) || not (eqb (length-field bs) (length-of (n-field bs))))
@@ -127,3 +130,11 @@ pair-out p = not (in-range (p .upper)) || not (in-range (p .lower))
 -- 5, in the mixture lookup: a minimum or target that puts a limit out of range
 abbrev pub offset-case : ℤ → ℤ → Case
 offset-case minimum target = given-when Range (pair-out (vma-pair minimum) || pair-out (voids-pair target))
+
+-- 9, in the cut of a job: more than 4,096 sublots
+abbrev pub job-case : ℕ → Case
+job-case sublots = given-when Number (ltb longest-job sublots)
+
+-- 10: the table in use has no column for n
+abbrev pub column-case : Found → Case
+column-case found = given-when NoColumn (not (has-column found))

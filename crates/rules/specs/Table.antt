@@ -1,6 +1,6 @@
 -- Document 01, "The table": Table 106-1 of document 004 as printed, in hundredths.
 -- A line for each row k, which stands for an index of k/20, and in it the columns n = 2 to 10.
-use mathlib.Core.Bool.{Bool, true, cond, _&&_}
+use mathlib.Core.Bool.{Bool, true, false, cond, _&&_}
 use mathlib.Core.List.{List, [], _∷_, map}
 use Prim.Native.Nat.{ℕ, suc, _+_, _-_, _*_, _/_}
 use lib.Dec.{leb, ltb, eqb}
@@ -73,6 +73,10 @@ pub data Found : Type 0 where
 -- the printed table has a column for each n from 2 to 10, and no other
 unfoldable pub table-106-1 : ℕ → Found
 table-106-1 n = cond (leb 2 n && leb n 10) (a-column (map (λ (row : List ℕ). getD row (n - 2) 0) rows)) no-column
+
+abbrev pub has-column : Found → Bool
+has-column no-column = false
+has-column (a-column column) = true
 
 -- the entries of what is found
 abbrev pub entries : Found → List ℕ

@@ -1,5 +1,5 @@
 // What a host in C gives and is given: plain numbers, laid out as C lays them out. Each answer begins with the refusal.
-// A struct that is passed by value can hold no array, so a lot has a field for each of its ten places; C lays these out as an array of ten.
+// A struct that is passed by value can hold no array, so a lot has a field for each of its places; C lays these out as an array.
 
 // Why there is no answer: the refusal's number, 0 for none.
 #[repr(C)]
@@ -28,6 +28,13 @@ pub struct HostLot {
     pub eighth: i32,
     pub ninth: i32,
     pub tenth: i32,
+    pub eleventh: i32,
+    pub twelfth: i32,
+    pub thirteenth: i32,
+    pub fourteenth: i32,
+    pub fifteenth: i32,
+    pub sixteenth: i32,
+    pub seventeenth: i32,
 }
 
 #[repr(C)]
@@ -86,6 +93,12 @@ pub struct HostRead {
 pub struct HostWritten {
     pub refusal: HostRefusal,
     pub size: usize,
+}
+
+#[repr(C)]
+pub struct HostListed {
+    pub refusal: HostRefusal,
+    pub items: usize,
 }
 
 #[repr(C)]

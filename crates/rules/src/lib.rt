@@ -5,7 +5,7 @@ ghost use mathlib.Core.Path.{_≡_};
 ghost use Rattle.rules.specs.Refusals.{number-of};
 
 // The most readings that a lot can hold.
-pub const MOST: usize = 10;
+pub const MOST: usize = 17;
 
 // 100 percent, in hundredths.
 pub const HUNDRED_PERCENT: i64 = 10000;
@@ -36,7 +36,7 @@ pub enum Limit {
     At(Thousandths),
 }
 
-// Why an entry does not answer. The numbers are document 01's.
+// Why an entry does not answer. The numbers are document 01's and document 02's.
 pub enum Refusal {
     // 1: too few bytes, or the length does not fit the slice
     Size,
@@ -54,8 +54,10 @@ pub enum Refusal {
     Crossed,
     // 8: no room for what is to be written
     Room,
-    // 9: a number that pay or the mixture lookup does not take
+    // 9: a number that pay, the mixture lookup or the cut of a job does not take
     Number,
+    // 10: no column in the table for so many readings
+    NoColumn,
 }
 
 impl Refusal {
@@ -72,6 +74,7 @@ impl Refusal {
             Refusal::Crossed => 7,
             Refusal::Room => 8,
             Refusal::Number => 9,
+            Refusal::NoColumn => 10,
         }
     }
 }
@@ -181,6 +184,12 @@ pub struct ReadAnswer {
 
 // The number of bytes written.
 pub enum WriteAnswer {
+    Answers(usize),
+    Refused(Refusal),
+}
+
+// How many items stand in a lent list that was filled.
+pub enum ListAnswer {
     Answers(usize),
     Refused(Refusal),
 }

@@ -11,7 +11,14 @@ ghost use mathlib.Core.List.{[], _∷_};
 ghost use lib.IntN.{pos};
 ghost use lib.ListN.{length};
 ghost use Rattle.rules.specs.Record.{spelled};
-ghost use Rattle.rules.specs.Table.{table-106-1, entries, entry, column-in};
+ghost use Rattle.rules.specs.Table.{table-106-1, has-column, entries, entry, column-in};
+
+// Whether the table has a column for n readings.
+pub fn has_column(n: usize) -> bool
+    ensures { λ r. ⌜ r ≡ has-column (table-106-1 n) ⌝ }
+{
+    (2 <= n) & (n <= 10)
+}
 
 // The column for n readings. Inner: `quality::percentages` and the printed table pass a count that has one.
 pub fn column(n: usize) -> [u8; 108]

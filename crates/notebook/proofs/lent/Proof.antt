@@ -8,9 +8,10 @@ use borrow.Author.Needs.{needs}
 use lib.ListN.{length}
 use Rattle.rules.specs.Record.{fours}
 use Rattle.rules.specs.Refusals.{size-fits}
-use Rattle.rules.specs.Meets.{row-meets}
-use Rattle.laws.specs.Totalled.{with-limits-say, totalled}
+use Rattle.rules.specs.Meets.{bytes-meet, row-meets}
+use Rattle.laws.specs.Totalled.{with-limits-say, with-column-say, totalled}
 use Rattle.laws.proofs.Ruled.{ruled-met}
+use Rattle.laws.proofs.Accepted.{totalled-with-column}
 use Rattle.laws.proofs.Lots.{walked-with-limits}
 use Rattle.laws.proofs.Lent.{fitting-count, fitting-totals}
 use Rattle.notebook.proofs.lent.Statement.{statement}
@@ -28,19 +29,27 @@ walk-requires c κs = (fitting-count (length (c .before .before .before .args .b
 met-requires : tie.Need-met-requires
 met-requires c κs = search needs
 
+with-column-requires : tie.Need-with-column-requires
+with-column-requires c κs = search needs
+
 returns : tie.Need-returns
+unfolding row-meets
 returns c =
-    let then = c .before .before in
+    let met = c .before in
+    let then = met .before .before in
     let args = then .before .before .before .args in
     let bs : List ℕ = args .bytes .now in
-    c .met .ensures
-    ∙ ap (with-limits-say (args .upper) (args .lower)) (c .before .walk .ensures .0)
-    ∙ walked-with-limits (args .upper) (args .lower) (fours (length bs / 4) bs)
-    ∙ sym (fitting-totals (args .upper) (args .lower) bs (fitting then))
+    c .with-column .ensures
+    ∙ ap with-column-say
+      (met .met .ensures
+      ∙ ap (with-limits-say (args .upper) (args .lower)) (met .before .walk .ensures .0)
+      ∙ walked-with-limits (args .upper) (args .lower) (fours (length bs / 4) bs)
+      ∙ sym (fitting-totals (args .upper) (args .lower) bs (fitting then)))
+    ∙ totalled-with-column (bytes-meet bs) _
 
 returns-2 : tie.Need-returns-2
 unfolding totalled row-meets
 returns-2 c = sym (ruled-met _ _ _ (ap not (sym (c .before .size-fits .ensures) ∙ c .if1 .left)))
 
 pub lent-spec : {M : Type 1} → statement M
-lent-spec = tie.close (tie.spec size-fits-requires walk-requires met-requires returns returns-2)
+lent-spec = tie.close (tie.spec size-fits-requires walk-requires met-requires with-column-requires returns returns-2)

@@ -20,7 +20,7 @@ enum-known-a : tie.Need-enum-known-a
 enum-known-a c = search needs
 
 pwl-of-requires : tie.Need-pwl-of-requires
-pwl-of-requires c κs = let h = accepted (c .before) in (h .bounded, h .upper-in-range, h .lower-in-range)
+pwl-of-requires c κs = let h = accepted (c .before) in (h .bounded, h .upper-in-range, h .lower-in-range, h .column)
 
 returns : tie.Need-returns
 unfolding ofBits

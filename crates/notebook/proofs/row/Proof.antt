@@ -30,7 +30,7 @@ deviation-of-requires : tie.Need-deviation-of-requires
 deviation-of-requires c κs = accepted (c .before .before) .bounded
 
 pwl-of-requires : tie.Need-pwl-of-requires
-pwl-of-requires c κs = let h = accepted (c .before .before .before) in (h .bounded, h .upper-in-range, h .lower-in-range)
+pwl-of-requires c κs = let h = accepted (c .before .before .before) in (h .bounded, h .upper-in-range, h .lower-in-range, h .column)
 
 returns : tie.Need-returns
 returns c = sym (lent-refused _ _ _ (c .before .before .before .lent .ensures) (c .before .refusal .given .1))

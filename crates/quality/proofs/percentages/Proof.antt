@@ -7,6 +7,7 @@ use Rattle.rules.specs.declared.Totals.{Totals}
 use Rattle.rules.specs.declared.Limit.{Limit}
 use Rattle.rules.specs.Percent.{Rule}
 use Rattle.rules.specs.Entries.{percentages-of}
+use Rattle.laws.proofs.Table.{table-106-1-counts}
 use Rattle.laws.proofs.ColumnIn.{table-106-1-column-in}
 use Rattle.quality.proofs.percentages.Statement.{statement}
 use Rattle.quality.proofs.percentages.Tie as tie
@@ -19,7 +20,7 @@ cast-column : tie.Need-cast-column
 cast-column c = search needs
 
 column-requires : tie.Need-column-requires
-column-requires c κs = search needs
+column-requires c κs = table-106-1-counts (c .before .args .a .n) .0 (c .before .pre .3)
 
 slice-aggregate-by-column : tie.Need-slice-aggregate-by-column
 slice-aggregate-by-column c = search needs
@@ -28,7 +29,8 @@ by-column-requires : tie.Need-by-column-requires
 by-column-requires c κs =
     let start = c .before .before .before in
     let few = start .pre .0 in
-    (table-106-1-column-in (c .before .column .result) (start .args .a .n) (few .least) (few .few) (c .before .column .ok .1 .0 .1) (c .before .column .ensures), few, start .pre .1, start .pre .2)
+    let n = table-106-1-counts (start .args .a .n) .0 (start .pre .3) in
+    (table-106-1-column-in (c .before .column .result) (start .args .a .n) (n .0) (n .1) (c .before .column .ok .1 .0 .1) (c .before .column .ensures), few, start .pre .1, start .pre .2)
 
 returns : tie.Need-returns
 returns c =

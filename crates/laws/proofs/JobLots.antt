@@ -2,7 +2,7 @@
 use mathlib.Core.Path.{_≡_, refl, sym, ap, _∙_, subst⁻¹}
 use mathlib.Core.List.{List, [], _∷_, List·Memᴰ, List·Memᴰ·head, List·Memᴰ·tail, List·Memᴰ·cases-cons, List·Memᴰ·not-nil}
 use mathlib.Core.Logic.{_⊎_, inl, inr, ⊎-elim}
-use Prim.Native.Nat.{ℕ, suc, _+_, _/_, _≤_, _<_}
+use Prim.Native.Nat.{ℕ, zero, suc, _+_, _*_, _/_, _≤_, _<_}
 use native.Mathlib.Omega.{arith}
 use lib.ListN.{length, length-append, length-replicate, replicate}
 use Rattle.rules.specs.Job.{with-leftover, lot-sizes, Item, in-order, cut}
@@ -42,6 +42,22 @@ many {sublots} t h =
 
 pub lots-by-ten : (sublots : ℕ) → 8 ≤ sublots → length (cut sublots) ≡ (sublots + 2) / 10
 lots-by-ten sublots h = many (job-tens sublots (omega arith)) h
+
+-- There are no more lots than sublots,
+pub no-more-lots : (sublots : ℕ) → length (cut sublots) ≤ sublots
+no-more-lots zero = omega (arith, no-lots)
+no-more-lots (suc s) = by (job-tens (suc s) (omega arith))
+  where
+    by : Tens (suc s) (lot-sizes (suc s)) → length (cut (suc s)) ≤ suc s
+    by t = omega (arith, lots-are t, t .whole, t .some)
+
+-- and each starts within the job, at ten times its place.
+pub starts-within : (sublots i : ℕ) → i < length (cut sublots) → 10 * i ≤ sublots
+starts-within zero i h = absurd (omega (arith, no-lots))
+starts-within (suc s) i h = by (job-tens (suc s) (omega arith))
+  where
+    by : Tens (suc s) (lot-sizes (suc s)) → 10 * i ≤ suc s
+    by t = omega (arith, lots-are t, t .whole)
 
 -- ---- each lot, and each sublot
 

@@ -2,6 +2,7 @@ pub mod Lists
 pub mod Job
 pub mod JobLots
 pub mod JobNumbers
+pub mod JobAnswers
 pub mod Ratio
 pub mod Value
 pub mod Root

@@ -1,8 +1,9 @@
 -- A list, as a loop fills it.
 use mathlib.Core.Path.{_≡_, refl, sym, ap, ap₂, _∙_}
 use mathlib.Core.List.{List, [], _∷_, _++_, map}
-use Prim.Native.Nat.{ℕ, zero, suc, _<_}
+use Prim.Native.Nat.{ℕ, zero, suc, _+_, _<_}
 use native.Mathlib.Nat.{le-of-suc-le-suc}
+use native.Mathlib.Numerals.{add-one}
 use native.Mathlib.Omega.{arith}
 use lib.ListN.{length, length-map, List·getD-map, take, drop, getD, set}
 use lib.Seq.{take-suc, take-suc-set}
@@ -21,3 +22,11 @@ filled-suc [] old d k h j = absurd (omega arith)
 filled-suc (x ∷ new) [] d k h j = absurd (omega arith)
 filled-suc (x ∷ new) (y ∷ old) d zero h j = refl
 filled-suc {A} (x ∷ new) (y ∷ old) d (suc k) h j = ap (λ (zs : List A). x ∷ zs) (filled-suc new old d k (le-of-suc-le-suc h) (le-of-suc-le-suc j))
+
+-- The same for two places at once.
+pub filled-two :
+    {A : Type 0} (new old : List A) (d : A) (k : ℕ) {a b : A} → k + 1 < length new → k + 1 < length old → getD new k d ≡ a → getD new (k + 1) d ≡ b →
+    set (set (take k new ++ drop k old) k a) (k + 1) b ≡ take (k + 2) new ++ drop (k + 2) old
+filled-two new old d k h j e f =
+    let two : k + 2 ≡ suc (suc k) = omega arith in
+    rw (← e, ← f, add-one k, two, filled-suc new old d k (omega arith) (omega arith)) (filled-suc new old d (suc k) (omega arith) (omega arith))

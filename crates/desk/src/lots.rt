@@ -93,14 +93,16 @@ pub(crate) fn worked_example() {
     payments::worked_example(vma, voids, density);
 }
 
-// Refusal 4: n not 2 to 10.
+// Refusal 4: n not 2 to 17. The table has no column for 11 and more: refusal 10, but no refusal of mean and deviation.
 pub(crate) fn counts() {
     words(b"\nCounts\n");
-    let many = [4000; 11];
+    let many = [4000; 18];
     lot(b"1 reading", &many[..1], at(4000), Limit::Absent);
     lot(b"2 readings", &many[..2], at(4000), Limit::Absent);
     lot(b"10 readings", &many[..10], at(4000), Limit::Absent);
-    lot(b"11 readings", &many, at(4000), Limit::Absent);
+    lot(b"11 readings", &many[..11], at(4000), Limit::Absent);
+    lot(b"17 readings", &many[..17], at(4000), Limit::Absent);
+    lot(b"18 readings", &many, at(4000), Limit::Absent);
 }
 
 // Refusal 5: a reading out of range.

@@ -7,6 +7,7 @@ use record::read;
 use record::write;
 use rules::HeldLot;
 use rules::Limit;
+use rules::MOST;
 use rules::Outcome;
 use rules::Thousandths;
 use rules::WriteAnswer;
@@ -58,14 +59,14 @@ fn written_again(bytes: &[u8]) {
 }
 
 pub(crate) fn both_ways() {
-    let none = Thousandths(0);
-    let last = Thousandths(80);
+    let mut readings = [Thousandths(0); MOST];
+    readings[3] = Thousandths(80);
     words(b"\nRecord\nD5, written: ");
     written(HeldLot {
         upper: Limit::At(Thousandths(21)),
         lower: Limit::Absent,
         count: 4,
-        readings: [none, none, none, last, none, none, none, none, none, none],
+        readings: readings,
     });
     words(b"D5, as it is printed, read and written again: ");
     written_again(&D5);

@@ -6,6 +6,7 @@ use rules::HundredthTons;
 use rules::Hundredths;
 use rules::Thousandths;
 use rules::host::HostDeviation;
+use rules::host::HostListed;
 use rules::host::HostLot;
 use rules::host::HostMean;
 use rules::host::HostMixtureLimits;
@@ -18,8 +19,8 @@ use rules::host::HostWritten;
 ghost use mathlib.Core.Path.{_≡_};
 ghost use Rattle.rules.specs.Lot.{lot-in};
 ghost use Rattle.rules.specs.Notebook.{mean-asked, deviation-asked, pwl-asked};
-ghost use Rattle.rules.specs.Entries.{mean-says, deviation-says, evaluation-says, read-leaves, write-says, after-write, pay-says, mixture-says};
-ghost use Rattle.rules.specs.Host.{host-refusal, host-mean, host-deviation, host-percentages, host-payment, host-mixture-limits, given-lot, given-row, held-lot, host-read, host-written, host-row};
+ghost use Rattle.rules.specs.Entries.{mean-says, deviation-says, evaluation-says, read-leaves, write-says, after-write, cut-says, after-cut, pay-says, mixture-says};
+ghost use Rattle.rules.specs.Host.{host-refusal, host-mean, host-deviation, host-percentages, host-payment, host-mixture-limits, given-lot, given-row, held-lot, host-read, host-written, host-listed, host-row};
 
 #[no_mangle]
 pub extern "C" fn tulpavice_mean(readings: &[i32]) -> HostMean
@@ -96,6 +97,14 @@ pub extern "C" fn tulpavice_write(lot: HostLot, out: &mut [u8]) -> HostWritten
     ensures { λ r. ⌜ now (out .exit) ≡ after-write (lot-in (held-lot lot)) (now (out .entry)) ⌝ }
 {
     host::written(record::write(held_lot(lot), out))
+}
+
+#[no_mangle]
+pub extern "C" fn tulpavice_cut(sublots: usize, out: &mut [u32]) -> HostListed
+    ensures { λ r. ⌜ r ≡ host-listed (cut-says sublots (now (out .entry))) ⌝ }
+    ensures { λ r. ⌜ now (out .exit) ≡ after-cut sublots (now (out .entry)) ⌝ }
+{
+    host::listed(job::cut(sublots, out))
 }
 
 #[no_mangle]

@@ -9,7 +9,7 @@
 SIZE(refusal, 4);
 AT(refusal, number, 0);
 
-SIZE(lot, 60);
+SIZE(lot, 88);
 AT(lot, upper, 0);
 AT(lot, upper_present, 4);
 AT(lot, lower, 8);
@@ -50,13 +50,17 @@ AT(mixture_limits, voids_upper, 16);
 AT(mixture_limits, density_lower, 20);
 AT(mixture_limits, density_upper, 24);
 
-SIZE(read, 64);
+SIZE(read, 92);
 AT(read, refusal, 0);
 AT(read, lot, 4);
 
 SIZE(written, 16);
 AT(written, refusal, 0);
 AT(written, size, 8);
+
+SIZE(listed, 16);
+AT(listed, refusal, 0);
+AT(listed, items, 8);
 
 SIZE(row, 32);
 AT(row, refusal, 0);

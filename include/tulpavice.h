@@ -9,16 +9,18 @@
      1  a record of fewer than 13 bytes, or whose length is not its size less 2
      2  a record whose version is not 1
      3  unknown flags in a record, or an absent limit whose bytes are not zero
-     4  not 2 to 10 readings, or a size that does not fit their number
+     4  not 2 to 17 readings, or a size that does not fit their number
      5  a present limit or a reading out of range; in the mixture lookup, a limit that would be
      6  both limits absent
      7  the lower limit above the upper
      8  lent memory shorter than what is to be written
      9  in pay: a number below 0, a PWL above 10,000, a price above 10,000,000 or a quantity above 100,000,000;
-        in the mixture lookup: a mixture number not 0 to 3
+        in the mixture lookup: a mixture number not 0 to 3; in the cut of a job: more than 4,096 sublots
+    10  no column in Table 106-1, which has those for 2 to 10 readings; only where a percentage is asked for
 
-   The lowest that applies is given, of those that the call can meet. Each struct that is answered begins with the refusal,
-   whose number is 0 for none; of what is refused every other number is 0.
+   The lowest that applies is given, of those that the call can meet, but that the cut of a job looks for 9 before 8.
+   Each struct that is answered begins with the refusal, whose number is 0 for none; of what is refused every other
+   number is 0.
 
    A limit is a number and a presence: 0 is absent, and its number is then not read; any other is present.
 
@@ -45,10 +47,15 @@ extern "C" {
 
 /* The first number goes up where a program must be built anew or is answered otherwise, the second where more is
    offered. docs/VERSIONS.md says what each version has. */
-#define TULPAVICE_VERSION "1.0.0"
+#define TULPAVICE_VERSION "2.0.0"
 
-/* The most readings that a lot can hold. */
-#define TULPAVICE_MOST 10
+/* The most readings that a lot can hold, and the most bytes that its record can have. */
+#define TULPAVICE_MOST 17
+#define TULPAVICE_MOST_BYTES (13 + 4 * TULPAVICE_MOST)
+
+/* The most sublots of a job that is cut, and how many lots that job has: two numbers to each are room for any job. */
+#define TULPAVICE_MOST_SUBLOTS 4096
+#define TULPAVICE_MOST_LOTS ((TULPAVICE_MOST_SUBLOTS + 2) / 10)
 
 /* Why there is no answer: the number above, or 0 where there is one. */
 struct tulpavice_refusal {
@@ -119,6 +126,12 @@ struct tulpavice_written {
     size_t size;
 };
 
+/* How many items stand in a lent list that was filled. */
+struct tulpavice_listed {
+    struct tulpavice_refusal refusal;
+    size_t items;
+};
+
 /* The notebook's row: mean and deviation in the readings' own units, thousandths over 1000, and PWL in percent. */
 struct tulpavice_row {
     struct tulpavice_refusal refusal;
@@ -133,7 +146,7 @@ struct tulpavice_mean tulpavice_mean(const int32_t *readings, size_t count);
 /* To the nearest thousandth; shown to people, and no percentage depends on it. Refusals 4 and 5. */
 struct tulpavice_deviation tulpavice_deviation(const int32_t *readings, size_t count);
 
-/* Both sides and PWL, of some readings and two limits. Refusals 4 to 7. */
+/* Both sides and PWL, of some readings and two limits. Refusals 4 to 7 and 10. */
 struct tulpavice_percentages tulpavice_evaluate(const int32_t *readings, size_t count, int32_t upper,
                                                 uint32_t upper_present, int32_t lower, uint32_t lower_present);
 
@@ -165,8 +178,15 @@ struct tulpavice_read tulpavice_read(const uint8_t *bytes, size_t size);
    leaves every byte. All `room` bytes are lent, also those that are not written. Refusals 4 to 8. */
 struct tulpavice_written tulpavice_write(struct tulpavice_lot lot, uint8_t *out, size_t room);
 
+/* Cuts a job of so many sublots into lots, from the start of a lent list: two numbers to each lot, the sublot with which
+   it starts, counted from 0, and how many it has. Ten make a lot; of those left over at the end seven or fewer join the
+   lot before, which then has up to 17, and eight or nine are a lot of their own, as is whatever is left where no lot is
+   before it. The numbers past the lots stay, and a refused cut leaves every number. All `room` numbers are lent, also
+   those that are not written. Refusals 9 and then 8. */
+struct tulpavice_listed tulpavice_cut(size_t sublots, uint32_t *out, size_t room);
+
 /* The notebook's row, of readings that come as bytes, four to each, two's complement, highest first, as in a record.
-   Each double is one division of exact doubles, and 0 where the lot is refused. Refusals 4 to 7. */
+   Each double is one division of exact doubles, and 0 where the lot is refused. Refusals 4 to 7 and 10. */
 struct tulpavice_row tulpavice_row(const uint8_t *readings, size_t size, int32_t upper, uint32_t upper_present,
                                    int32_t lower, uint32_t lower_present);
 

@@ -129,13 +129,13 @@ class Header(unittest.TestCase):
             shown = ran([*compile_, str(self.folder / "layout.o"), "hosts/layout.c"])
             return shown.stderr if shown.returncode else None
 
-        self.assertEqual(said("#define TULPAVICE_MOST 10", "#define TULPAVICE_MOST 10"), None)
+        self.assertEqual(said("#define TULPAVICE_MOST 17", "#define TULPAVICE_MOST 17"), None)
         structs = re.findall(r"^struct tulpavice_(\w+) \{$", header, re.M)
-        self.assertEqual(len(structs), 10)
+        self.assertEqual(len(structs), 11)
         for struct in structs:
             opening = f"struct tulpavice_{struct} {{\n"
             self.assertRegex(said(opening, f"{opening}    int64_t more;\n"), rf"the size of {struct}\b")
         self.assertIn("percentages.upper", said("int64_t upper;\n    int64_t lower;", "int64_t lower;\n    int64_t upper;"))
         self.assertIn("mean.total", said("    int32_t total;\n", "    int64_t total;\n"))
         self.assertIn("AT(payment, lot, 28)", said("    uint32_t lot;\n", ""))
-        self.assertIn("the size of lot", said("#define TULPAVICE_MOST 10", "#define TULPAVICE_MOST 11"))
+        self.assertIn("the size of lot", said("#define TULPAVICE_MOST 17", "#define TULPAVICE_MOST 18"))

@@ -4,7 +4,7 @@ use mathlib.Core.Bool.{false}
 use mathlib.Core.List.{List, _++_}
 use Prim.Native.Nat.{ℕ, _*_, _≤_, _<_}
 use native.Mathlib.Omega.{arith}
-use borrow.Author.Tests.{lt-ltb, le-ltb, ltb-false}
+use borrow.Author.Tests.{lt-ltb, le-ltb}
 use lib.ListN.{length, take, drop}
 use lib.Seq.{take-at, drop-at}
 use Rattle.rules.specs.declared.Refusal.{Refusal}
@@ -12,7 +12,7 @@ use Rattle.rules.specs.declared.Refusal.the-variants.{Room, Number}
 use Rattle.rules.specs.declared.ListAnswer.{ListAnswer}
 use Rattle.rules.specs.Said.{refused, answers}
 use Rattle.rules.specs.Job.{longest-job, Item, cut, item-numbers}
-use Rattle.rules.specs.Refusals.{job-case, room-case}
+use Rattle.rules.specs.Refusals.{job-case}
 use Rattle.rules.specs.Meets.{cut-meets}
 use Rattle.rules.specs.Answers.{list-said}
 use Rattle.rules.specs.Entries.{cut-says, written, after-cut}

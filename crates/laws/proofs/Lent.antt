@@ -16,7 +16,7 @@ use Rattle.rules.specs.declared.Row.{Row}
 use Rattle.rules.specs.declared.Refusal.{Refusal}
 use Rattle.rules.specs.Said.{Case, refused, answers, ruled}
 use Rattle.rules.specs.Lot.{Lot, most, lot-of}
-use Rattle.rules.specs.Table.{Found, table-106-1, has-column, entries}
+use Rattle.rules.specs.Table.{table-106-1, has-column, entries}
 use Rattle.rules.specs.Percent.{nearest, totals, spread, upper-side, lower-side}
 use Rattle.rules.specs.Deviation.{deviation}
 use Rattle.rules.specs.Record.{fours}

@@ -3,6 +3,8 @@ pub mod Job
 pub mod JobLots
 pub mod JobNumbers
 pub mod JobAnswers
+pub mod NoColumn
+pub mod DeskJob
 pub mod Ratio
 pub mod Value
 pub mod Root

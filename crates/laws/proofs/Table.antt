@@ -10,7 +10,7 @@ use borrow.Author.Tests.{le-leb, leb-true}
 use lib.Dec.{T, leb, eqb, leb→le, eqb→eq}
 use lib.Ieee.Fits.{and-l, and-r}
 use lib.ListN.{length, getD}
-use Rattle.rules.specs.Table.{Found, no-column, a-column, rows, table-106-1, has-column, entries, entry, last-row, rises-from, well-formed, column-four}
+use Rattle.rules.specs.Table.{no-column, a-column, rows, table-106-1, has-column, entries, entry, last-row, rises-from, well-formed, column-four}
 use Rattle.laws.specs.Column.{Column}
 use Rattle.laws.proofs.Each.{each, each-at}
 

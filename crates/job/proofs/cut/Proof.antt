@@ -1,12 +1,12 @@
 -- A refused cut leaves the lent list as it was; else it is the items, and after them the rest as it was.
 use mathlib.Core.Path.{_≡_, sym, ap, _∙_}
 use mathlib.Core.List.{List, _++_}
-use Prim.Native.Nat.{ℕ, _*_, _≤_}
+use Prim.Native.Nat.{ℕ, _*_}
 use native.Mathlib.Omega.{arith}
 use borrow.Author.Needs.{needs}
-use lib.ListN.{length, drop}
+use lib.ListN.{drop}
 use Rattle.rules.specs.declared.Refusal.{Refusal}
-use Rattle.rules.specs.Said.{Said, refused, answers}
+use Rattle.rules.specs.Said.{refused, answers}
 use Rattle.rules.specs.Job.{cut, item-numbers}
 use Rattle.rules.specs.Entries.{cut-says, after-cut}
 use Rattle.laws.proofs.JobLots.{no-more-lots}
@@ -29,8 +29,9 @@ fill-requires c κs = search needs
 
 returns : tie.Need-returns
 returns c =
-    let start = c .before .before in
-    refused-cut _ _ (long-job-is-refused (start .args .sublots) (start .args .out .now) (c .if1 .taken))
+    let long = c in
+    let start = long .before .before in
+    refused-cut _ _ (long-job-is-refused (start .args .sublots) (start .args .out .now) (omega (arith, long .if1 .taken)))
 
 returns-2 : tie.Need-returns-2
 returns-2 c =

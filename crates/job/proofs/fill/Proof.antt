@@ -1,5 +1,5 @@
 -- The loop has filled in the first i lots, which have ten sublots each; the last is filled in after it.
-use mathlib.Core.Path.{_≡_, refl, sym, ap, _∙_}
+use mathlib.Core.Path.{_≡_, refl, ap, _∙_}
 use mathlib.Core.List.{List, _++_}
 use Prim.Native.Nat.{ℕ, _+_, _*_, _-_, _≤_, _<_}
 use native.Mathlib.Omega.{arith}
@@ -83,7 +83,7 @@ mul-put-3 : tie.Need-mul-put-3 Inv-loop μ-loop
 mul-put-3 c = omega (arith, starts (c .before .before .before) (omega arith), c .before .before .before .before .before .pre .0)
 
 sub-put : tie.Need-sub-put Inv-loop μ-loop
-sub-put c = starts (c .before .before .before) (omega arith)
+sub-put c = omega (arith, starts (c .before .before .before) (omega arith))
 
 cast-put-3 : tie.Need-cast-put-3 Inv-loop μ-loop
 cast-put-3 c = omega (arith, c .before .before .before .before .before .pre .0)

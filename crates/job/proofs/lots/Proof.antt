@@ -1,6 +1,6 @@
 -- The number of lots, by the three laws that say it.
 use mathlib.Core.Path.{_≡_, sym, ap, _∙_}
-use Prim.Native.Nat.{ℕ, _≤_}
+use Prim.Native.Nat.{ℕ}
 use native.Mathlib.Omega.{arith}
 use borrow.Author.Needs.{needs}
 use lib.ListN.{length}
@@ -13,10 +13,12 @@ add-result : tie.Need-add-result
 add-result c = search needs
 
 returns : tie.Need-returns
-returns c = sym (ap (λ (s : ℕ). length (cut s)) (c .if1 .taken) ∙ no-lots)
+returns c =
+    let none : c .before .args .sublots ≡ 0 = omega (arith, c .if1 .taken) in
+    sym (ap (λ (s : ℕ). length (cut s)) none ∙ no-lots)
 
 returns-2 : tie.Need-returns-2
-returns-2 c = sym (one-lot _ (omega (arith, c .before .if1 .left)) (c .if2 .taken))
+returns-2 c = sym (one-lot _ (omega (arith, c .before .if1 .left)) (omega (arith, c .if2 .taken)))
 
 returns-3 : tie.Need-returns-3
 returns-3 c = sym (lots-by-ten _ (omega arith))

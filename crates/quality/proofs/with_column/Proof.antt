@@ -30,13 +30,15 @@ returns c = sym (known (c .before .said .given .1))
 
 returns-2 : tie.Need-returns-2
 returns-2 c =
-    let found = sym (c .before .has-column .ensures) ∙ c .if1 .taken in
-    sym (known (c .before .before .before .before .said2 .given .1) ∙ ruled-passed _ _ _ (ap not found) ∙ ruled-none _)
+    let asked = c .before in
+    let found = sym (asked .has-column .ensures) ∙ c .if1 .taken in
+    sym (known (asked .before .before .before .said2 .given .1) ∙ ruled-passed _ _ _ (ap not found) ∙ ruled-none _)
 
 returns-3 : tie.Need-returns-3
 returns-3 c =
-    let none = sym (c .before .has-column .ensures) ∙ c .if1 .left in
-    sym (known (c .before .before .before .before .said2 .given .1) ∙ ruled-met _ _ _ (ap not none))
+    let denied = c .before in
+    let none = sym (denied .has-column .ensures) ∙ c .if1 .left in
+    sym (known (denied .before .before .before .said2 .given .1) ∙ ruled-met _ _ _ (ap not none))
 
 pub with-column-spec : {M : Type 1} → statement M
 with-column-spec =

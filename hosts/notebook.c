@@ -1,5 +1,5 @@
-/* The notebook: a program over the library's header alone. It shows the worked example of document 000, or answers the
-   lots of a file, a line for each.
+/* The notebook: a program over the library's header alone. It shows the worked example of document 000, answers the lots
+   of a file, a line for each, or cuts a job into lots.
 
    A lot is one line, in the papers' units, with blanks or tabs between its words:
 
@@ -26,6 +26,8 @@ static void show_help(const char *called)
     printf("usage: %s                  shows a worked example\n", name);
     printf("       %s [--tabs] FILE    answers the lots of a file, or of standard\n", name);
     printf("       %*s                  input if FILE is -\n", (int)strlen(name), "");
+    printf("       %s [--tabs] --cut SUBLOTS\n", name);
+    printf("       %*s                  cuts a job of so many sublots into lots\n", (int)strlen(name), "");
     printf("       %s --help           shows this\n", name);
     printf("       %s --version        shows which version this is\n\n", name);
     printf("A lot is one line: LOWER UPPER READING READING ..., with 2 to %d readings.\n"
@@ -35,8 +37,13 @@ static void show_help(const char *called)
            "limits (PWL); with --tabs these stand under a header, with a tab between\n"
            "them. A bad line is told on standard error, with its number, the reason and\n"
            "the word that is wrong, and the next is read.\n\n"
-           "Exit status: 0 no line was bad, 1 one was, 2 wrong usage or a file that fails.\n",
-           TULPAVICE_MOST);
+           "A job of up to %d sublots is cut into lots of ten. Seven or fewer that are\n"
+           "left over at its end join the lot before; eight or nine are a lot of their\n"
+           "own. A joined lot has 11 to %d readings, for which the table has no column:\n"
+           "there is no PWL for it, and its line is bad.\n\n"
+           "Exit status: 0 no line was bad, 1 one was or the job was too long, 2 wrong\n"
+           "usage or a file that fails.\n",
+           TULPAVICE_MOST, TULPAVICE_MOST_SUBLOTS, TULPAVICE_MOST);
 }
 
 enum status { GOOD, BAD_LINE, TROUBLE };
@@ -347,6 +354,9 @@ static void tell_refusal(struct line *line, uint32_t refusal)
         fputs(" is above ", stderr);
         tell_place(line, UPPER);
         break;
+    case 10:
+        fprintf(stderr, "the table has no column for %lu readings, so there is no PWL", (unsigned long)line->lot.count);
+        break;
     default:
         fputs("the header says why", stderr);
     }
@@ -434,8 +444,20 @@ static enum status answer_file(const char *path, int tabs)
     return status;
 }
 
-/* What begins with a minus, and is more, is an option, known or not; a file of such a name has a path, as ./-x. */
-static int is_option(const char *word) { return word[0] == '-' && word[1]; }
+/* ---- A job, cut into lots ---- */
+
+/* Digits alone. A number too large for its type stays at the type's end, which is as much above what is cut. */
+static int read_sublots(const char *word, size_t *sublots)
+{
+    *sublots = 0;
+    for (const char *at = word; *at; at++) {
+        if (*at < '0' || *at > '9')
+            return 0;
+        size_t digit = (size_t)(*at - '0');
+        *sublots = *sublots > (SIZE_MAX - digit) / 10 ? SIZE_MAX : 10 * *sublots + digit;
+    }
+    return *word != 0;
+}
 
 static enum status wrong_usage(const char *word, const char *why)
 {
@@ -443,24 +465,55 @@ static enum status wrong_usage(const char *word, const char *why)
     return TROUBLE;
 }
 
+/* The library counts sublots from 0, and people from 1. */
+static void show_lot(size_t lot, uint32_t start, uint32_t count, int tabs)
+{
+    printf(tabs ? "%lu\t%lu\t%lu\t%lu\n" : "lot %3lu   sublots %4lu to %4lu   %2lu in all\n", (unsigned long)lot + 1,
+           (unsigned long)start + 1, (unsigned long)start + count, (unsigned long)count);
+}
+
+static enum status answer_job(const char *word, int tabs)
+{
+    uint32_t lots[2 * TULPAVICE_MOST_LOTS];
+    size_t sublots;
+    if (!read_sublots(word, &sublots))
+        return wrong_usage(word, "is not a number of sublots");
+    struct tulpavice_listed cut = tulpavice_cut(sublots, lots, sizeof lots / sizeof *lots);
+    if (cut.refusal.number) {
+        fprintf(stderr, "%s: refusal %d, a job has up to %d sublots\n", name, (int)cut.refusal.number,
+                TULPAVICE_MOST_SUBLOTS);
+        return BAD_LINE;
+    }
+    if (tabs)
+        printf("lot\tfirst\tlast\tsublots\n");
+    for (size_t i = 0; i < cut.items; i++)
+        show_lot(i, lots[2 * i], lots[2 * i + 1], tabs);
+    return GOOD;
+}
+
+/* What begins with a minus, and is more, is an option, known or not; a file of such a name has a path, as ./-x. */
+static int is_option(const char *word) { return word[0] == '-' && word[1]; }
+
 static enum status answer(int argc, char **argv)
 {
     int tabs = argc > 1 && strcmp(argv[1], "--tabs") == 0;
-    const char *file = argc > 1 + tabs ? argv[1 + tabs] : NULL;
+    int job = argc > 1 + tabs && strcmp(argv[1 + tabs], "--cut") == 0;
+    int options = tabs + job;
+    const char *word = argc > 1 + options ? argv[1 + options] : NULL;
     if (argc < 2)
         show_example();
     else if (argc == 2 && strcmp(argv[1], "--help") == 0)
         show_help(argv[0]);
     else if (argc == 2 && strcmp(argv[1], "--version") == 0)
         printf("%s (Tulpavice) %s\n", name, TULPAVICE_VERSION);
-    else if (!file)
-        return wrong_usage(argv[1], "needs a file, or - for standard input");
-    else if (is_option(file))
-        return wrong_usage(file, "is not understood here");
-    else if (argc > 2 + tabs)
-        return wrong_usage(argv[2 + tabs], "is a word too many");
+    else if (!word)
+        return wrong_usage(argv[options], job ? "needs a number of sublots" : "needs a file, or - for standard input");
+    else if (is_option(word))
+        return wrong_usage(word, "is not understood here");
+    else if (argc > 2 + options)
+        return wrong_usage(argv[2 + options], "is a word too many");
     else
-        return answer_file(file, tabs);
+        return job ? answer_job(word, tabs) : answer_file(word, tabs);
     return GOOD;
 }
 

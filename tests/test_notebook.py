@@ -1,4 +1,4 @@
-"""The notebook: document 000's worked example as `make run` shows it, and the lots of a file, each answered or told."""
+"""The notebook: document 000's worked example as `make run` shows it, the lots of a file, each answered or told, and a job cut into lots."""
 import os
 import pathlib
 import pty
@@ -177,7 +177,7 @@ class Lots(unittest.TestCase):
             rows += [f"{this} 0.000 100.00", f"{more} 0.000 0.00"]
         self.answered(text, rows)
 
-    def test_two_to_ten_readings(self):
+    def test_counts_that_have_a_column(self):
         self.answered("".join("- 4" + " 4" * n + "\n" for n in range(2, 11)), ["4.000 0.000 100.00"] * 9)
 
     def test_the_range_has_its_ends(self):
@@ -226,8 +226,8 @@ class BadLines(unittest.TestCase):
     def test_how_long_a_word_is_told(self):
         words = ["x" * n for n in (1, 2, 23, 24, 25, 26, 100, 70000)]
         self.words("the lower limit {} is not a number", "{} 5 4 4", *words)
-        self.words("reading 11 {} is not a number", f"- 5{' 4' * 10} {{}}", *words)
-        self.words("reading 12 {} is not a number", f"- 5{' 4' * 11} {{}} 4", *words)
+        for reading in 11, 17, 18, 19:
+            self.words(f"reading {reading} {{}} is not a number", f"- 5{' 4' * (reading - 1)} {{}} 4", *words)
 
     def test_one_limit_and_nothing_else(self):
         self.told(dict.fromkeys([b"5", b"-", b" 5\t", b"5\r"], "the upper limit is missing"))
@@ -237,7 +237,7 @@ class BadLines(unittest.TestCase):
                    b"x 4.0001": 'the lower limit "x" is not a number',
                    b"- 5 4.0001 x": 'reading 1 "4.0001" has more than three decimals',
                    b"- - 4.0001": 'reading 1 "4.0001" has more than three decimals',
-                   b"- -" + b" 4" * 12 + b" x 4 y": 'reading 13 "x" is not a number'})
+                   b"- -" + b" 4" * 19 + b" x 4 y": 'reading 20 "x" is not a number'})
 
     def test_bytes_that_are_no_text(self):
         self.words("the lower limit {} is not a number", "{} 5 4 4", b"\0", b"\0-", b"\xef\xbb\xbf-", b"\x1b[2J")
@@ -252,8 +252,14 @@ class BadLines(unittest.TestCase):
         self.told(dict.fromkeys([b"# lots\r- 5 4 4\r", b"#\r#", b" # \r\r"], "a carriage return within a comment"))
 
     def test_wrong_number_of_readings(self):
-        for line, count in {"- 5": 0, "- 5 4": 1, "4 5 4": 1, **{"- 5" + " 4" * n: n for n in (11, 12, 256 + 2, 10000, 65536 + 2)}}.items():
-            self.refused(f"4, a lot has 2 to 10 readings, and this has {count}", line)
+        for line, count in {"- 5": 0, "- 5 4": 1, "4 5 4": 1, **{"- 5" + " 4" * n: n for n in (18, 19, 255, 256 + 2, 10000, 65536 + 2)}}.items():
+            self.refused(f"4, a lot has 2 to 17 readings, and this has {count}", line)
+
+    def test_counts_that_have_no_column(self):
+        """Equal readings, one limit and two make no difference."""
+        for n in range(11, 18):
+            told = f"10, the table has no column for {n} readings, so there is no PWL"
+            self.refused(told, "- 5" + " 4" * n, "3 -" + " 4" * n, "3 5 3.5" + " 4" * (n - 1))
 
     def test_out_of_range(self):
         self.refused('5, the upper limit "500.001" is out of range', "- 500.001 4 4", "-501 500.001 501 4")
@@ -261,6 +267,7 @@ class BadLines(unittest.TestCase):
         self.refused('5, reading 1 "500.001" is out of range', "- 5 500.001 4", "- 5 500.001 501")
         self.refused('5, reading 2 "-500.001" is out of range', "- 5 4 -500.001", "- 5 4 -500.001 501")
         self.refused('5, reading 10 "501" is out of range', "- 5" + " 4" * 9 + " 501")
+        self.refused('5, reading 17 "501" is out of range', "- 5" + " 4" * 16 + " 501")
 
     def test_numbers_too_large_for_any_type(self):
         """Some would be 4 if they wrapped at 32 or 64 bits."""
@@ -280,9 +287,12 @@ class BadLines(unittest.TestCase):
             self.refused(f'7, the lower limit "{lower}" is above the upper limit "{upper}"', f"{lower} {upper} 4 4")
 
     def test_the_lowest_refusal_is_told(self):
-        self.refused("4, a lot has 2 to 10 readings, and this has 1", "- - 4", "501 - 4", "5 4 4", "- 5 501")
-        self.refused("4, a lot has 2 to 10 readings, and this has 0", "- -")
-        self.refused("4, a lot has 2 to 10 readings, and this has 11", "5 4 501" + " 4" * 10)
+        self.refused("4, a lot has 2 to 17 readings, and this has 1", "- - 4", "501 - 4", "5 4 4", "- 5 501")
+        self.refused("4, a lot has 2 to 17 readings, and this has 0", "- -")
+        self.refused("4, a lot has 2 to 17 readings, and this has 18", "5 4 501" + " 4" * 17)
+        self.refused('5, reading 1 "501" is out of range', "- - 501" + " 4" * 16)
+        self.refused("6, both limits are absent", "- -" + " 4" * 11)
+        self.refused('7, the lower limit "5" is above the upper limit "4"', "5 4" + " 4" * 17)
         self.refused('5, reading 1 "501" is out of range', "- - 501 4")
         self.refused('5, reading 2 "501" is out of range', "5 4 4 501")
         self.refused('5, the lower limit "501" is out of range', "501 4 4 4")
@@ -302,6 +312,39 @@ class BadLines(unittest.TestCase):
         much, row = 300000, "4.000 0.000 100.00"
         text = "\n".join(["#" + " 4 x" * much, " " * much, "- 5 4" + "\t" * much + "4", "x" * much, "- 5 4 4"])
         self.assertEqual(read(text), ({3: row, 4: f"the lower limit {shown(b'x' * much)} is not a number", 5: row}, 1))
+
+
+def lots(sublots):
+    """The lots of a job by document 000's words: its sublots dealt out in tens, and seven or fewer at the end put to the lot before."""
+    dealt = [list(range(at, min(at + 10, sublots + 1))) for at in range(1, sublots + 1, 10)]
+    if len(dealt) > 1 and len(dealt[-1]) <= 7:
+        dealt[-2:] = [dealt[-2] + dealt[-1]]
+    return [(number, lot[0], lot[-1], len(lot)) for number, lot in enumerate(dealt, start=1)]
+
+
+class Jobs(unittest.TestCase):
+    def test_a_job_is_cut(self):
+        line = re.compile(r"lot +(\d+)   sublots +(\d+) to +(\d+)   +(\d+) in all")
+        for sublots in *range(41), 4088, 4096:
+            ran = notebook("--cut", str(sublots))
+            shown = [tuple(map(int, line.fullmatch(text).groups())) for text in ran.stdout.decode().splitlines()]
+            self.assertEqual((shown, ran.stderr, ran.returncode), (lots(sublots), b"", 0))
+
+    def test_tabs(self):
+        for sublots in 0, 1, 18, 4096:
+            ran = notebook("--tabs", "--cut", str(sublots))
+            header, *rows = ran.stdout.decode().splitlines()
+            self.assertEqual(header.split("\t"), ["lot", "first", "last", "sublots"])
+            self.assertEqual([tuple(map(int, row.split("\t"))) for row in rows], lots(sublots))
+            self.assertEqual((ran.stderr, ran.returncode), (b"", 0))
+
+    def test_a_job_that_is_too_long(self):
+        for sublots in 4097, 10000, 2**32, 2**32 + 18, 2**64 - 1, 2**64, 2**64 + 18, 10**4000:
+            ran = notebook("--cut", str(sublots))
+            self.assertEqual((ran.stdout, ran.stderr, ran.returncode), (b"", b"notebook: refusal 9, a job has up to 4096 sublots\n", 1))
+
+    def test_zeros_before_a_number(self):
+        self.assertEqual(notebook("--cut", "0" * 50 + "18").stdout, notebook("--cut", "18").stdout)
 
 
 class Usage(unittest.TestCase):
@@ -324,11 +367,11 @@ class Usage(unittest.TestCase):
     def test_the_manual_s_examples(self):
         """The page is a text for roff, in which a minus is written with a backslash."""
         page = (ROOT / "hosts/notebook.1.in").read_text("utf-8").replace("\\-", "-")
-        examples = re.findall(r"^\$ (echo .*) \| tulpavice-notebook -\n(.+)$", page, re.M)
-        self.assertEqual(len(examples), 2)
+        examples = re.findall(r"^\$ (.*\btulpavice-notebook -.*)\n((?:[^.$\n].*\n)+)", page, re.M)
+        self.assertEqual(len(examples), 3)
         for command, printed in examples:
-            ran = subprocess.run(["sh", "-c", f"{command} | {shlex.join(COMMAND)} -"], capture_output=True, text=True)
-            self.assertEqual(ran.stdout + ran.stderr, printed.removeprefix("tulpavice-") + "\n")
+            ran = subprocess.run(["sh", "-c", command.replace("tulpavice-notebook", shlex.join(COMMAND))], capture_output=True, text=True)
+            self.assertEqual(ran.stdout + ran.stderr, printed.removeprefix("tulpavice-"))
 
     def test_the_manual_names_what_help_names(self):
         page = (ROOT / "hosts/notebook.1.in").read_text("utf-8").replace("\\-", "-")
@@ -360,7 +403,10 @@ class Usage(unittest.TestCase):
         here, more = "is not understood here", "is a word too many"
         for words, word, why in ((["-", "-"], "-", more), (["--tabs"], "--tabs", "needs a file, or - for standard input"),
                                  (["--tabs", "-", "x"], "x", more), (["-", "--tabs"], "--tabs", more), (["--tab", "-"], "--tab", here), (["-x"], "-x", here),
-                                 (["--tabs", "--help"], "--help", here), (["--help", "-"], "--help", here), (["--"], "--", here)):
+                                 (["--tabs", "--help"], "--help", here), (["--help", "-"], "--help", here), (["--"], "--", here),
+                                 (["--cut"], "--cut", "needs a number of sublots"), (["--tabs", "--cut"], "--cut", "needs a number of sublots"),
+                                 (["--cut", "18", "19"], "19", more), (["--cut", "--tabs", "18"], "--tabs", here), (["--cut", "-5"], "-5", here),
+                                 *((["--cut", word], word, "is not a number of sublots") for word in ("", "x", "18x", "1.5", "+18", " 18", "0x12", "-"))):
             ran = notebook(*words, input=b"- 4 4 4\n")
             self.assertEqual((ran.stdout, ran.stderr.decode(), ran.returncode), (b"", f'notebook: "{word}" {why}; --help shows how notebook is used\n', 2))
 
@@ -372,7 +418,7 @@ class Usage(unittest.TestCase):
             self.assertEqual(ran.stderr, b'tulpavice-notebook: line 1: the lower limit "x" is not a number\n')
             ran = subprocess.run([*COMMAND[:-1], str(other), "--help"], capture_output=True, text=True)
             self.assertTrue(ran.stdout.split("\n")[0].endswith(f" | {other} -"))
-            self.assertEqual(re.findall(r"\S*notebook", ran.stdout.split("\n", 1)[1]), ["tulpavice-notebook"] * 4)
+            self.assertEqual(re.findall(r"\S*notebook", ran.stdout.split("\n", 1)[1]), ["tulpavice-notebook"] * 5)
 
     def test_a_file_that_cannot_be_opened(self):
         with tempfile.TemporaryDirectory() as folder:
@@ -400,7 +446,7 @@ class Usage(unittest.TestCase):
 
     @unittest.skipUnless(os.path.exists("/dev/full"), "there is no full device here")
     def test_answers_that_cannot_be_written(self):
-        for words in (), ("--help",), ("-",):
+        for words in (), ("--help",), ("-",), ("--cut", "18"):
             with open("/dev/full", "wb") as full:
                 ran = notebook(*words, **({"input": b"- 4 4 4\n"} if words == ("-",) else {}), stdout=full)
             self.assertEqual((ran.stderr, ran.returncode), (b"notebook: the answers cannot be written\n", 2))

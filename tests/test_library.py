@@ -54,6 +54,12 @@ class Library(unittest.TestCase):
         shown = ran(["sh", "-c", command])
         self.assertEqual((shown.stdout, shown.stderr, shown.returncode), (f"{answer}\n", "", 0))
 
+    def test_readme_shows_a_job_that_the_notebook_cuts(self):
+        running("target/host/notebook")
+        (command,), (lots,) = re.findall(r"`([^`]* --cut [^`]*)`", README), re.findall(r"^  ```text\n(.*?)^  ```", README, re.M | re.S)
+        shown = ran(["sh", "-c", command])
+        self.assertEqual((shown.stdout, shown.stderr, shown.returncode), (lots.replace("  lot", "lot"), "", 0))
+
     def test_nothing_is_asked_of_others(self):
         """It has no memory of its own, and calls nothing but what copies bytes: so it keeps and allocates nothing."""
         make("lib")

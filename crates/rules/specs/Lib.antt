@@ -1,4 +1,4 @@
--- Document 01 as definitions, section by section. This is what a reader must believe.
+-- Document 01 as definitions, section by section, with what is done of document 02. This is what a reader must believe.
 pub mod Units
 pub mod Said
 pub mod Lot

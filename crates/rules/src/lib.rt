@@ -1,4 +1,4 @@
-// The words of document 01: units, limits, refusals, lots and answers. What is right of them is in specs/; the crates above compute it.
+// The words of documents 01 and 02: units, limits, refusals, lots and answers. What is right of them is in specs/; the crates above compute it.
 pub mod host;
 
 ghost use mathlib.Core.Path.{_≡_};

@@ -41,10 +41,10 @@ returns c =
     let bs : List ℕ = args .bytes .now in
     c .with-column .ensures
     ∙ ap with-column-say
-      (met .met .ensures
-      ∙ ap (with-limits-say (args .upper) (args .lower)) (met .before .walk .ensures .0)
-      ∙ walked-with-limits (args .upper) (args .lower) (fours (length bs / 4) bs)
-      ∙ sym (fitting-totals (args .upper) (args .lower) bs (fitting then)))
+    (met .met .ensures
+    ∙ ap (with-limits-say (args .upper) (args .lower)) (met .before .walk .ensures .0)
+    ∙ walked-with-limits (args .upper) (args .lower) (fours (length bs / 4) bs)
+    ∙ sym (fitting-totals (args .upper) (args .lower) bs (fitting then)))
     ∙ totalled-with-column (bytes-meet bs) _
 
 returns-2 : tie.Need-returns-2

@@ -33,6 +33,7 @@ jobs =
     record { sublots = 0; lots = [] } ∷
     record { sublots = 1; lots = 0 ∷ 1 ∷ [] } ∷
     record { sublots = 7; lots = 0 ∷ 7 ∷ [] } ∷
+    record { sublots = 8; lots = 0 ∷ 8 ∷ [] } ∷
     record { sublots = 9; lots = 0 ∷ 9 ∷ [] } ∷
     record { sublots = 10; lots = 0 ∷ 10 ∷ [] } ∷
     record { sublots = 11; lots = 0 ∷ 11 ∷ [] } ∷
@@ -48,7 +49,7 @@ jobs =
 pub jobs-are-cut : Every CutSo jobs
 unfolding cut lot-sizes with-leftover in-order item-numbers
 jobs-are-cut =
-    refl then refl then refl then refl then refl then refl then refl then refl then refl then refl then refl then refl then refl then done
+    refl then refl then refl then refl then refl then refl then refl then refl then refl then refl then refl then refl then refl then refl then done
 
 -- The longest job has 409 lots, the last of 16 sublots, and is not refused; one sublot more is.
 pub longest-job-is-cut :

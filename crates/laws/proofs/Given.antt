@@ -118,6 +118,11 @@ written-given said r e z =
     let h = given host-written (λ (x : HostWritten). x .refusal) (λ x. refl) (λ a. refl) said r e z in
     h .1 ∙ ap (λ (x : HostWritten). answers (x .size)) (sym (h .2))
 
+pub listed-given : (said : Said ℕ) (r : HostListed) → r ≡ host-listed said → r .refusal .number ≡ 0 → said ≡ answers (r .items)
+listed-given said r e z =
+    let h = given host-listed (λ (x : HostListed). x .refusal) (λ x. refl) (λ a. refl) said r e z in
+    h .1 ∙ ap (λ (x : HostListed). answers (x .items)) (sym (h .2))
+
 pub payment-given :
     (said : Said Payment) (r : HostPayment) → r ≡ host-payment said → r .refusal .number ≡ 0 →
     (p : Payment) × (said ≡ answers p) × (r ≡ host-payment (answers p))

@@ -2,7 +2,7 @@
 use mathlib.Core.Path.{_≡_, refl, ap, ap₂, subst}
 use mathlib.Core.Bool.{Bool, true, false, cond}
 use mathlib.Core.List.{List, [], _∷_, _++_}
-use mathlib.Core.Logic.{_⊎_, inl, inr, ⊎-elim}
+use mathlib.Core.Logic.{⊎-elim}
 use Prim.Native.Nat.{ℕ, zero, suc, _+_, _*_, _/_, _%_, _≤_, _<_}
 use native.Mathlib.Omega.{arith}
 use borrow.Author.Tests.{leb-true, leb-false}
@@ -10,13 +10,7 @@ use lib.Dec.{leb}
 use lib.ListN.{replicate}
 use Rattle.rules.specs.Job.{with-leftover, lot-sizes, Item, in-order, cut}
 use Rattle.laws.specs.Job.{Runs, Sized, CutByRule}
-
-pub at-least-or-below : (a b : ℕ) → (a ≤ b) ⊎ (b < a)
-at-least-or-below a b = by (leb a b) refl
-  where
-    by : (t : Bool) → leb a b ≡ t → (a ≤ b) ⊎ (b < a)
-    by true e = inl (leb-true a b e)
-    by false e = inr (leb-false a b e)
+use Rattle.laws.proofs.Tests.{at-least-or-below}
 
 -- ---- tens, and a last lot
 

@@ -10,14 +10,17 @@ use lib.Seq.{take-at, drop-at}
 use Rattle.rules.specs.declared.Refusal.{Refusal}
 use Rattle.rules.specs.declared.Refusal.the-variants.{Room, Number}
 use Rattle.rules.specs.declared.ListAnswer.{ListAnswer}
+use Rattle.rules.specs.declared.host.HostListed.{HostListed}
 use Rattle.rules.specs.Said.{refused, answers}
 use Rattle.rules.specs.Job.{longest-job, Item, cut, item-numbers}
 use Rattle.rules.specs.Refusals.{job-case}
 use Rattle.rules.specs.Meets.{cut-meets}
 use Rattle.rules.specs.Answers.{list-said}
 use Rattle.rules.specs.Entries.{cut-says, written, after-cut}
+use Rattle.rules.specs.Host.{host-listed}
 use Rattle.laws.specs.Job.{CutByRule}
 use Rattle.laws.proofs.Ruled.{ruled-none, ruled-met, ruled-passed, ruled-answers}
+use Rattle.laws.proofs.Given.{listed-given}
 use Rattle.laws.proofs.Job.{cut-by-rule}
 use Rattle.laws.proofs.JobNumbers.{length-numbers}
 
@@ -75,3 +78,9 @@ cut-answer-is-by-rule sublots items out after e f =
       numbers = rw is (take-at numbers (drop (2 * items) out) (2 * items) size);
       rest = rw is (drop-at numbers (drop (2 * items) out) (2 * items) size);
     }
+
+-- of what C is given
+pub given-cut-is-by-rule :
+    (sublots : ℕ) (out after : List ℕ) (r : HostListed) →
+    r ≡ host-listed (cut-says sublots out) → after ≡ after-cut sublots out → r .refusal .number ≡ 0 → CutGiven sublots (r .items) out after
+given-cut-is-by-rule sublots out after r e f z = cut-answer-is-by-rule sublots (r .items) out after (sym (listed-given _ r e z)) f

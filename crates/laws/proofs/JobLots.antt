@@ -7,7 +7,8 @@ use native.Mathlib.Omega.{arith}
 use lib.ListN.{length, length-append, length-replicate, replicate}
 use Rattle.rules.specs.Job.{with-leftover, lot-sizes, Item, in-order, cut}
 use Rattle.laws.specs.Job.{Runs, Sized, LotOf, Holds}
-use Rattle.laws.proofs.Job.{at-least-or-below, Tens, job-tens, cut-by-rule}
+use Rattle.laws.proofs.Tests.{at-least-or-below}
+use Rattle.laws.proofs.Job.{Tens, job-tens, cut-by-rule}
 
 -- ---- how many lots there are
 
@@ -24,7 +25,7 @@ lots-are t =
     ∙ length-append (replicate (t .tens) 10) (t .last ∷ [])
     ∙ omega (arith, length-replicate {A = ℕ} (t .tens) 10)
 
--- None without sublots, one for fewer than eight, and from eight on one for each ten of two more.
+-- None without sublots, one for fewer than eight, and from eight on the whole part of (sublots + 2)/10.
 pub no-lots : length (cut 0) ≡ 0
 unfolding cut in-order lot-sizes with-leftover
 no-lots = refl
@@ -51,13 +52,13 @@ no-more-lots (suc s) = by (job-tens (suc s) (omega arith))
     by : Tens (suc s) (lot-sizes (suc s)) → length (cut (suc s)) ≤ suc s
     by t = omega (arith, lots-are t, t .whole, t .some)
 
--- and each starts within the job, at ten times its place.
-pub starts-within : (sublots i : ℕ) → i < length (cut sublots) → 10 * i ≤ sublots
+-- and ten times a lot's place is within the job; that the lot starts there is `ten-is-at` and `last-is-at`, JobNumbers.antt.
+pub starts-within : (sublots i : ℕ) → i < length (cut sublots) → 10 * i < sublots
 starts-within zero i h = absurd (omega (arith, no-lots))
 starts-within (suc s) i h = by (job-tens (suc s) (omega arith))
   where
-    by : Tens (suc s) (lot-sizes (suc s)) → 10 * i ≤ suc s
-    by t = omega (arith, lots-are t, t .whole)
+    by : Tens (suc s) (lot-sizes (suc s)) → 10 * i < suc s
+    by t = omega (arith, lots-are t, t .whole, t .some)
 
 -- ---- each lot, and each sublot
 

@@ -1,10 +1,12 @@
 -- The numbers of a job's lots, place by place.
 use mathlib.Core.Path.{_≡_, refl, ap, _∙_}
-use mathlib.Core.List.{List, [], _∷_}
+use mathlib.Core.List.{List, [], _∷_, _++_}
 use Prim.Native.Nat.{ℕ, zero, suc, _+_, _*_, _-_, _<_}
 use native.Mathlib.Omega.{arith}
-use lib.ListN.{length, getD}
+use lib.ListN.{length, take, drop, getD, set}
+use lib.Seq.{take-all}
 use Rattle.rules.specs.Job.{lot-sizes, Item, in-order, cut, item-numbers}
+use Rattle.laws.proofs.Lists.{filled-two}
 use Rattle.laws.proofs.Job.{tens-and, Tens, job-tens}
 use Rattle.laws.proofs.JobLots.{lots-are, no-lots}
 
@@ -59,3 +61,20 @@ last-is-at (suc s) i h = by (job-tens (suc s) (omega arith))
         let e : i ≡ t .tens = omega (arith, lots-are t) in
         let f : suc s - 10 * i ≡ t .last = omega (arith, t .whole) in
         rw (f, e, t .same) (last-at (t .tens) (t .last) 0 (10 * t .tens) (omega arith))
+
+-- ---- a lent list, as it is filled
+
+-- Item i is filled in after those before it.
+pub item-filled :
+    (sublots i : ℕ) {start count : ℕ} (old out : List ℕ) → Numbers (cut sublots) i start count →
+    i < length (cut sublots) → 2 * i + 1 < length old → out ≡ take (2 * i) (item-numbers (cut sublots)) ++ drop (2 * i) old →
+    set (set out (2 * i) start) (2 * i + 1) count ≡ take (2 * (i + 1)) (item-numbers (cut sublots)) ++ drop (2 * (i + 1)) old
+item-filled sublots i old out numbers h room e =
+    let more : 2 * (i + 1) ≡ 2 * i + 2 = omega arith in
+    rw (e, more) (filled-two (item-numbers (cut sublots)) old 0 (2 * i) (omega (arith, length-numbers (cut sublots))) room (numbers .0) (numbers .1))
+
+-- When all items are filled in, the list is theirs and then as it was.
+pub all-filled : (sublots k lots : ℕ) (old : List ℕ) → lots ≡ length (cut sublots) → k ≡ lots → take (2 * k) (item-numbers (cut sublots)) ++ drop (2 * k) old ≡ item-numbers (cut sublots) ++ drop (2 * lots) old
+all-filled sublots k lots old e f =
+    let all = take-all (2 * lots) (item-numbers (cut sublots)) (omega (arith, length-numbers (cut sublots))) in
+    rw f (ap (λ (ns : List ℕ). ns ++ drop (2 * lots) old) all)

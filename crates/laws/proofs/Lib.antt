@@ -1,10 +1,4 @@
 pub mod Lists
-pub mod Job
-pub mod JobLots
-pub mod JobNumbers
-pub mod JobAnswers
-pub mod NoColumn
-pub mod DeskJob
 pub mod Ratio
 pub mod Value
 pub mod Root
@@ -57,6 +51,12 @@ pub mod EvaluationAnswers
 pub mod TurnedAnswers
 pub mod MovedAnswers
 pub mod PayAnswers
+pub mod NoColumn
+pub mod Job
+pub mod JobLots
+pub mod JobNumbers
+pub mod JobAnswers
+pub mod DeskJob
 pub mod Spelled
 pub mod Words
 pub mod Lent

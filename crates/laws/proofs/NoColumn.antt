@@ -1,24 +1,31 @@
 -- Refusal 10 is given where a percentage is asked for, all else is in order and no column is found, and nowhere else.
-use mathlib.Core.Path.{_≡_, ap, _∙_, subst}
-use mathlib.Core.Bool.{Bool, true, false, not, _||_}
+use mathlib.Core.Path.{_≡_, refl, sym, ap, _∙_, subst}
+use mathlib.Core.Bool.{Bool, true, false, not, _&&_, _||_, and-false}
 use mathlib.Core.List.{List, [], _∷_}
-use Prim.Native.Nat.{ℕ}
-use borrow.Author.Tests.{eq-eqb}
-use lib.Dec.{T, eqb}
+use Prim.Native.Nat.{ℕ, _<_}
+use native.Mathlib.Omega.{arith}
+use borrow.Author.Tests.{eq-eqb, lt-leb}
+use lib.Dec.{T, leb, eqb}
 use lib.IntN.{ℤ}
+use Rattle.rules.specs.declared.Limit.{Limit}
 use Rattle.rules.specs.declared.Refusal.{Refusal}
 use Rattle.rules.specs.declared.Refusal.the-variants.{NoColumn}
 use Rattle.rules.specs.Said.{Case, refused, answers, checked, ruled}
 use Rattle.rules.specs.Lot.{Lot}
-use Rattle.rules.specs.Table.{Found, has-column, entries}
-use Rattle.rules.specs.Percent.{Rule}
+use Rattle.rules.specs.Table.{Found, table-106-1, has-column, entries}
+use Rattle.rules.specs.Percent.{Rule, nearest}
 use Rattle.rules.specs.Refusals.{number-of}
-use Rattle.rules.specs.Meets.{readings-meet, counted-meets, column-meets, evaluation-meets, read-meets, write-meets}
-use Rattle.rules.specs.Entries.{mean-says, deviation-says, percentages, evaluated, read-says, write-says}
+use Rattle.rules.specs.Notebook.{lent-lot}
+use Rattle.rules.specs.Meets.{readings-meet, counted-meets, column-meets, evaluation-meets, bytes-meet, row-meets, read-meets, write-meets, pay-meets, mixture-meets, cut-meets}
+use Rattle.rules.specs.Entries.{mean-says, deviation-says, column-for, percentages, evaluated, evaluation-says, read-says, write-says, pay-says, mixture-says, cut-says, row-says}
 use Rattle.laws.proofs.Ruled.{ruled-none, ruled-met, ruled-passed, ruled-later}
+use Rattle.laws.proofs.Table.{table-106-1-has}
 use Rattle.laws.proofs.Refusals.{First, here, later, FirstGiven, first-is-given}
 
 -- ---- where a percentage is asked for, by any rule, whatever V and the limits are
+
+none-above-ten : (n : ℕ) → 10 < n → has-column (table-106-1 n) ≡ false
+none-above-ten n many = table-106-1-has n ∙ ap (_&&_ (leb 2 n)) (lt-leb n 10 many) ∙ and-false (leb 2 n)
 
 module _ (rule : Rule) (found : Found) (lot : Lot) (ok : checked (counted-meets lot) ≡ answers tt) where
   last : evaluated rule found lot ≡ ruled (column-meets found) (percentages rule (entries found) lot)
@@ -30,6 +37,27 @@ module _ (rule : Rule) (found : Found) (lot : Lot) (ok : checked (counted-meets 
 
   pub column-is-answered : has-column found ≡ true → evaluated rule found lot ≡ answers (percentages rule (entries found) lot)
   column-is-answered some = last ∙ ruled-passed _ _ _ (ap not some) ∙ ruled-none _
+
+  -- and it is given for nothing else.
+  pub refused-has-no-column : evaluated rule found lot ≡ refused NoColumn → has-column found ≡ false
+  refused-has-no-column e = by (has-column found) refl
+    where
+      by : (b : Bool) → has-column found ≡ b → b ≡ false
+      by true some = absurd (let z : _≡_ {A = ℕ} 0 1 = cc (sym (column-is-answered some) ∙ e) in omega arith)
+      by false none = refl
+
+-- So, by Table 106-1, is every lot of 11 to 17 readings that meets nothing else.
+pub more-than-ten-is-refused : (lot : Lot) → checked (counted-meets lot) ≡ answers tt → 10 < lot .n → evaluation-says lot ≡ refused NoColumn
+unfolding evaluation-says
+more-than-ten-is-refused lot ok many = no-column-is-refused nearest (column-for lot) lot ok (none-above-ten (lot .n) many)
+
+-- The row of bytes meets it in the same way.
+pub row-without-column-is-refused :
+    (upper lower : Limit) (bs : List ℕ) →
+    checked (bytes-meet bs (lent-lot upper lower bs)) ≡ answers tt → has-column (column-for (lent-lot upper lower bs)) ≡ false →
+    row-says upper lower bs ≡ refused NoColumn
+unfolding row-says row-meets
+row-without-column-is-refused upper lower bs ok none = ruled-later (bytes-meet bs (lent-lot upper lower bs)) _ _ ok ∙ ruled-met _ _ _ (ap not none)
 
 -- ---- elsewhere
 
@@ -64,3 +92,15 @@ reading-needs-no-column bs e = given-is-among (read-meets bs) _ e
 pub writing-needs-no-column : (lot : Lot) (out : List ℕ) → write-says lot out ≡ refused NoColumn → ⊥
 unfolding write-says write-meets
 writing-needs-no-column lot out e = given-is-among (write-meets lot _) _ e
+
+pub pay-needs-no-column : (vma voids density price quantity : ℤ) → pay-says vma voids density price quantity ≡ refused NoColumn → ⊥
+unfolding pay-says pay-meets
+pay-needs-no-column vma voids density price quantity e = given-is-among (pay-meets vma voids density price quantity) _ e
+
+pub lookup-needs-no-column : (mixture minimum target : ℤ) → mixture-says mixture minimum target ≡ refused NoColumn → ⊥
+unfolding mixture-says mixture-meets
+lookup-needs-no-column mixture minimum target e = given-is-among (mixture-meets mixture minimum target) _ e
+
+pub cutting-needs-no-column : (sublots : ℕ) (out : List ℕ) → cut-says sublots out ≡ refused NoColumn → ⊥
+unfolding cut-says cut-meets
+cutting-needs-no-column sublots out e = given-is-among (cut-meets sublots _) _ e

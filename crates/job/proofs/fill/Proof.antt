@@ -1,14 +1,12 @@
 -- The loop has filled in the first i lots, which have ten sublots each; the last is filled in after it.
-use mathlib.Core.Path.{_≡_, refl, ap, _∙_}
-use mathlib.Core.List.{List, _++_}
+use mathlib.Core.Path.{_≡_, refl, _∙_}
+use mathlib.Core.List.{_++_}
 use Prim.Native.Nat.{ℕ, _+_, _*_, _-_, _≤_, _<_}
 use native.Mathlib.Omega.{arith}
-use lib.ListN.{length, take, drop, getD, set}
-use lib.Seq.{take-all}
+use lib.ListN.{length, take, drop}
 use Rattle.rules.specs.Job.{cut, item-numbers}
-use Rattle.laws.proofs.Lists.{filled-two}
 use Rattle.laws.proofs.JobLots.{no-more-lots, starts-within}
-use Rattle.laws.proofs.JobNumbers.{length-numbers, ten-is-at, last-is-at}
+use Rattle.laws.proofs.JobNumbers.{ten-is-at, last-is-at, item-filled, all-filled}
 use Rattle.job.proofs.fill.Statement.{statement}
 use Rattle.job.proofs.fill.Tie as tie
 
@@ -18,27 +16,12 @@ Inv-loop sublots lots out₀ i₀ out i = (i ≤ lots) × (length out ≡ length
 abbrev μ-loop : tie.MeasureT-loop
 μ-loop sublots lots out₀ i₀ out i = lots - i
 
--- There are no more lots than sublots, and a lot starts within the job.
+-- There are no more lots than sublots, and ten times a lot's place is within the job.
 few : (c : tie.At-loop Inv-loop μ-loop) → c .before .before .args .lots ≤ c .before .before .args .sublots
 few c = omega (arith, no-more-lots (c .before .before .args .sublots), c .before .before .pre .1)
 
-starts : (c : tie.At-loop Inv-loop μ-loop) → c .loop .i < c .before .before .args .lots → 10 * c .loop .i ≤ c .before .before .args .sublots
+starts : (c : tie.At-loop Inv-loop μ-loop) → c .loop .i < c .before .before .args .lots → 10 * c .loop .i < c .before .before .args .sublots
 starts c h = starts-within _ _ (omega (arith, c .before .before .pre .1))
-
--- Item i is filled in after those before it.
-item-filled :
-    (sublots i : ℕ) {start count : ℕ} (old out : List ℕ) → (getD (item-numbers (cut sublots)) (2 * i) 0 ≡ start) × (getD (item-numbers (cut sublots)) (2 * i + 1) 0 ≡ count) →
-    i < length (cut sublots) → 2 * i + 1 < length old → out ≡ take (2 * i) (item-numbers (cut sublots)) ++ drop (2 * i) old →
-    set (set out (2 * i) start) (2 * i + 1) count ≡ take (2 * (i + 1)) (item-numbers (cut sublots)) ++ drop (2 * (i + 1)) old
-item-filled sublots i old out numbers h room e =
-    let more : 2 * (i + 1) ≡ 2 * i + 2 = omega arith in
-    rw (e, more) (filled-two (item-numbers (cut sublots)) old 0 (2 * i) (omega (arith, length-numbers (cut sublots))) room (numbers .0) (numbers .1))
-
--- When all items are filled in, the list is theirs and then as it was.
-all-filled : (sublots k lots : ℕ) (old : List ℕ) → lots ≡ length (cut sublots) → k ≡ lots → take (2 * k) (item-numbers (cut sublots)) ++ drop (2 * k) old ≡ item-numbers (cut sublots) ++ drop (2 * lots) old
-all-filled sublots k lots old e f =
-    let all = take-all (2 * lots) (item-numbers (cut sublots)) (omega (arith, length-numbers (cut sublots))) in
-    rw f (ap (λ (ns : List ℕ). ns ++ drop (2 * lots) old) all)
 
 loop-holds : tie.Need-loop-holds Inv-loop μ-loop
 loop-holds c = (omega arith, refl, refl)

@@ -1,4 +1,4 @@
--- Two numbers of magnitude up to ten times 500,000, and their difference, fit.
+-- Two numbers of magnitude up to 500,000 for each reading that a lot can hold, and their difference, fit.
 use mathlib.Core.Path.{refl}
 use Prim.Native.Nat.{_*_, _≤_}
 use native.Mathlib.Omega.{arith}

@@ -18,7 +18,7 @@
         in the mixture lookup: a mixture number not 0 to 3; in the cut of a job: more than 4,096 sublots
     10  no column in Table 106-1, which has those for 2 to 10 readings; only where a percentage is asked for
 
-   The lowest that applies is given, of those that the call can meet, but that the cut of a job looks for 9 before 8.
+   The lowest that applies is given, of those that the call can meet, except that the cut of a job looks for 9 before 8.
    Each struct that is answered begins with the refusal, whose number is 0 for none; of what is refused every other
    number is 0.
 

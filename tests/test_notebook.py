@@ -376,7 +376,7 @@ class Usage(unittest.TestCase):
     def test_the_manual_names_what_help_names(self):
         page = (ROOT / "hosts/notebook.1.in").read_text("utf-8").replace("\\-", "-")
         options = set(re.findall(rb"--\w+", notebook("--help").stdout))
-        self.assertEqual({word.encode() for word in re.findall(r"^\.B (--\w+)$", page, re.M)}, options)
+        self.assertEqual({word.encode() for word in re.findall(r"^\.TP\n\.B (--\w+)$", page, re.M)}, options)
 
     def test_version(self):
         """The header has it, and docs/VERSIONS.md begins with it."""

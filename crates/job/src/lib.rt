@@ -12,7 +12,7 @@ ghost use Rattle.rules.specs.Entries.{cut-says, after-cut};
 // The most sublots that are cut.
 const LONGEST_JOB: usize = 4096;
 
-// How many lots there are: from eight sublots on, one for each ten of two more.
+// How many lots there are: none, one, and from eight sublots on the whole part of (sublots + 2)/10.
 fn lots(sublots: usize) -> usize
     requires { ⌜ sublots ≤ longest-job ⌝ }
     ensures { λ r. ⌜ r ≡ length (cut sublots) ⌝ }

@@ -102,7 +102,7 @@ ruled-append (c ∷ cs) ds a = by (c .applies) (ruled-append cs ds a)
     by true later = refl
     by false later = later
 
--- What passes a refusal on and has more cases for values says, of what some cases say, what all the cases say.
+-- A step that passes a refusal on and looks for more cases where there are values says, after some cases, what both lists in one say.
 pub ruled-then :
     {A : Type 0} (cs ds : List Case) (a : A) (then : Said A → Said A) → ((r : Refusal) → then (refused r) ≡ refused r) → then (answers a) ≡ ruled ds a →
     then (ruled cs a) ≡ ruled (cs ++ ds) a

@@ -9,19 +9,19 @@ use lib.ListN.{replicate}
 abbrev pub longest-job : ℕ
 longest-job = 4096
 
--- with no previous lot the leftover stands alone; where nothing is left over there is no lot
+-- what is left over as a lot by itself, and no lot where nothing is
 abbrev pub alone : ℕ → List ℕ
 alone zero = []
 alone (suc left) = suc left ∷ []
 
--- How many sublots each lot has, by how many times ten there are and how many sublots are left over: seven or fewer left over join the
--- previous lot, eight or nine stand alone.
+-- How many sublots each lot has, by how many times ten there are and how many sublots are left over. With no lot before them these stand alone; after
+-- a lot, seven or fewer join it, and eight or nine stand alone.
 unfoldable pub with-leftover : ℕ → ℕ → List ℕ
 with-leftover zero left = alone left
 with-leftover (suc before) left =
     cond (leb left 7) (replicate before 10 ++ ((10 + left) ∷ [])) (replicate (suc before) 10 ++ alone left)
 
--- ten make a lot
+-- ten to a lot
 unfoldable pub lot-sizes : ℕ → List ℕ
 lot-sizes sublots = with-leftover (sublots / 10) (sublots % 10)
 

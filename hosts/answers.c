@@ -4,11 +4,11 @@
      lot U UP L LP N r1..rN           the mean, the percentages, and of the row its refusal, mean and PWL
      deviation U UP L LP N r1..rN     the deviation, the row's, and the row in one call
      bytes U UP L LP HEX              the row of readings that come as bytes, by its four calls and then in one
-     held U UP L LP COUNT r0..r9      the percentages of a lot
+     held U UP L LP COUNT r0..r16     the percentages of a lot
      pay VMA VOIDS DENSITY PRICE QUANTITY
      mixture NUMBER MINIMUM TARGET
      read HEX                         the lot; if it was accepted, its record written again
-     write U UP L LP COUNT r0..r9 ROOM
+     write U UP L LP COUNT r0..r16 ROOM
                                       what was written, with the lent memory and a guard on each side of it; if it was
                                       accepted, the lot read again
 
@@ -21,7 +21,7 @@
 
 #include "tulpavice.h"
 
-enum { GUARD = 8, MOST_ROOM = 1000, MOST_MEMORY = GUARD + MOST_ROOM + GUARD };
+enum { GUARD = 8, MOST_ROOM = 2000, MOST_MEMORY = GUARD + MOST_ROOM + GUARD };
 
 static char *line; /* the call */
 static size_t line_room;
@@ -170,7 +170,8 @@ static void print(int64_t value)
 
 static void print_bytes(const uint8_t *bytes, size_t size)
 {
-    char text[1 + 2 * MOST_MEMORY] = " ";
+    char text[1 + 2 * MOST_MEMORY];
+    text[0] = ' ';
     for (size_t i = 0; i < size; i++) {
         text[1 + 2 * i] = "0123456789abcdef"[bytes[i] >> 4];
         text[2 + 2 * i] = "0123456789abcdef"[bytes[i] & 15];
@@ -302,7 +303,7 @@ static void answer_read(void)
     struct tulpavice_read answer = tulpavice_read(bytes, size);
     print_read(answer);
     if (answer.refusal.number == 0) {
-        uint8_t again[64] = {0};
+        uint8_t again[TULPAVICE_MOST_BYTES] = {0};
         struct tulpavice_written written = tulpavice_write(answer.lot, again, sizeof again);
         print(written.refusal.number);
         print((int64_t)written.size);

@@ -8,8 +8,8 @@ import random
 
 import papers
 from lots import (
-    closest_misses, COUNTS, desk, equal, extreme, hairs, halves, INT32, limited, near_ties, realistic,
-    refused, small, spoiled, subsets, ties, uniform, UNREAD,
+    closest_misses, COLUMNS, counted, COUNTS, desk, equal, extreme, farthest_apart, hairs, halves, INT32, JOINED,
+    joined, limited, near_ties, realistic, refused, SIZES, small, some, spoiled, subsets, ties, uniform, UNREAD,
 )
 from papers import HEAD, MOST, RANGE, lot_of, pack
 
@@ -43,7 +43,7 @@ def lots(rng):
         closest_misses(rng),
         hairs(rng),
     )
-    for lot in itertools.chain(*accepted, refused(rng, 600)):
+    for lot in itertools.chain(*accepted, joined(rng, 2_500), counted(rng), refused(rng, 600)):
         yield lot_line("lot", *lot)
     # as many readings as a narrower count would take for four
     yield lot_line("lot", 100, 1, 0, 1, [1, 2, 3, 4] * (2**14 + 1))
@@ -51,45 +51,54 @@ def lots(rng):
 
 def deviations(rng):
     """A deviation takes the library the longer the larger it is, so all but a few are kept small."""
-    modest = (lot for lot in realistic(rng, 20_000) if max(lot[4]) - min(lot[4]) < 3000)
+    usual = itertools.chain(realistic(rng, 20_000), realistic(rng, 7_000, JOINED))
+    modest = (lot for lot in usual if max(lot[4]) - min(lot[4]) < 3000)
+    narrow = itertools.chain(small(rng, 15_000), small(rng, 5_000, JOINED), halves(rng, 2_500))
     wide = itertools.chain(uniform(rng, 10, RANGE), extreme(rng, 10))
-    for *limits, readings in itertools.chain(
-        desk(), small(rng, 15_000), halves(rng, 2_000), modest, wide, refused(rng, 100)
-    ):
+    wide_joined = itertools.chain(uniform(rng, 7, RANGE, JOINED), extreme(rng, 7, JOINED), farthest_apart(JOINED))
+    asked = desk(), narrow, modest, wide, wide_joined, counted(rng), refused(rng, 100)
+    for *limits, readings in itertools.chain(*asked):
         yield lot_line("deviation", *limits, readings)
         if readings and readings[0] < RANGE:
             yield lot_line("deviation", *limits, [readings[0] + 1, *readings[1:]])
 
 
+def spelled(readings):
+    """As bytes, or no bytes at all."""
+    return b"".join(reading.to_bytes(4, "big", signed=True) for reading in readings).hex() or "-"
+
+
 def rows(rng):
     """Readings as bytes, of any size."""
-    for _ in range(8_000):
-        size = rng.choice((*range(50), *range(8, 41, 4), 4 * 258))
+    sizes = *range(4 * MOST + 10), *(4 * count for count in COUNTS), 4 * 255, 4 * 258
+    for _ in range(10_000):
+        size = rng.choice(sizes)
         start = rng.choice((b"\0\0\0", b"\0\0\1", b"\xff\xff\xff", b"\0\7\xa1", b"\xff\xf8\x5e"))
         data = b"".join(start + rng.randbytes(1) for _ in range(size // 4)) + rng.randbytes(size % 4)
         yield line("bytes", *limited(rng, -1000, 1000, None)[:4], data.hex() or "-")
-    for _ in range(4_000):
-        count = rng.choice(COUNTS)
-        data = b"".join(rng.randint(-900, 900).to_bytes(4, "big", signed=True) for _ in range(count))
-        yield line("bytes", *limited(rng, -1000, 1000, None)[:4], data.hex())
-    for reasons, _ in itertools.product(subsets((4, 5, 6, 7)), range(50)):
-        lot = spoiled(rng, reasons, [rng.randint(-3000, 3000) for _ in range(rng.choice(COUNTS))])
-        data = b"".join(reading.to_bytes(4, "big", signed=True) for reading in lot[4])
-        yield line("bytes", *lot[:4], (data[: -rng.choice((1, 2, 3))] if 4 in reasons else data).hex())
+    accepted = uniform(rng, 4_000, 900), uniform(rng, 1_500, 900, JOINED), extreme(rng, 20, JOINED)
+    for lot in itertools.chain(*accepted, counted(rng)):
+        yield line("bytes", *lot[:4], spelled(lot[4]))
+    for reasons, _ in itertools.product(subsets((4, 5, 6, 7, 10)), range(50)):
+        lot = spoiled(rng, reasons, some(rng, reasons, (*SIZES, *COUNTS)))
+        # a count that a lot can have is refused for bytes that are missing
+        short = 2 * rng.choice((1, 2, 3)) if 4 in reasons and len(lot[4]) in COUNTS else 0
+        data = spelled(lot[4])
+        yield line("bytes", *lot[:4], data[: len(data) - short])
 
 
 def placed(rng, readings):
-    """Ten places, those after the readings filled with what is not to be read."""
-    return readings + rng.choices(UNREAD, k=MOST - len(readings))
+    """All places of a lot, those after its readings filled with what is not to be read."""
+    return readings[:MOST] + rng.choices(UNREAD, k=max(0, MOST - len(readings)))
 
 
 def held(rng):
-    for lot in itertools.chain(desk(), realistic(rng, 15_000), small(rng, 10_000), extreme(rng, 5_000), ties(rng, 1)):
+    accepted = desk(), realistic(rng, 15_000), small(rng, 10_000), extreme(rng, 5_000), ties(rng, 1)
+    for lot in itertools.chain(*accepted, joined(rng, 600), counted(rng)):
         yield line("held", *lot[:4], len(lot[4]), *placed(rng, lot[4]))
-    for reasons, _ in itertools.product(subsets((4, 5, 6, 7)), range(200)):
-        count = rng.choice(COUNTS)
-        lot = spoiled(rng, reasons, [rng.randint(-3000, 3000) for _ in range(count)])
-        yield line("held", *lot[:4], rng.choice(UNHELD) if 4 in reasons else count, *placed(rng, lot[4]))
+    for reasons, _ in itertools.product(subsets((4, 5, 6, 7, 10)), range(200)):
+        lot = spoiled(rng, reasons, some(rng, reasons, COUNTS))
+        yield line("held", *lot[:4], rng.choice(UNHELD) if 4 in reasons else len(lot[4]), *placed(rng, lot[4]))
 
 
 # Records.
@@ -110,7 +119,7 @@ def edited(rng):
         data = flagged(rng, flags, count)
         for place, value in itertools.product(range(HEAD.size), range(256)):
             yield with_byte(data, place, value)
-    for flags, count, _ in itertools.product((1, 2, 3), COUNTS, range(2)):
+    for flags, count, _ in itertools.product((1, 2, 3), (*COLUMNS, JOINED[0], JOINED[-1]), range(2)):
         data = flagged(rng, flags, count)
         for place, bit in itertools.product(range(len(data)), range(8)):
             yield with_byte(data, place, data[place] ^ 1 << bit)
@@ -125,13 +134,14 @@ def flagged(rng, flags, count):
 
 
 def resized(rng):
-    """Records cut short and made longer, their length left as it was or made to fit."""
+    """Records cut short and made longer, their length left as it was or made to fit; and longer than any lot's."""
     for flags, count in itertools.product((1, 2, 3), COUNTS):
         data = flagged(rng, flags, count)
         for size in range(len(data) + 9):
             changed = (data + rng.randbytes(9))[:size]
             yield changed
             yield max(size - 2, 0).to_bytes(2, "big")[:size] + changed[2:]
+    yield from (flagged(rng, flags, count) for flags in (1, 2, 3) for count in (MOST, MOST + 1, MOST + 2, 255))
     # a length that is right but for a multiple of 2^16
     yield flagged(rng, 3, 4) + bytes(2**16)
 
@@ -139,8 +149,8 @@ def resized(rng):
 def runs():
     """Whole runs: one byte over and over, and document 01's printed record of D5, of every size; its bytes that say most, at every value; every count."""
     d5 = bytes.fromhex("001B01010000001500000000040000000000000000000000000000000050")
-    longer = d5 + bytes(60 - len(d5))
-    for size in range(61):
+    longer = d5.ljust(HEAD.size + 4 * MOST + 8, b"\0")
+    for size in range(len(longer) + 1):
         yield from (bytes(size), b"\xff" * size, longer[:size])
         # the length made to fit: of the record, of one of version 2, and of one with a third flag
         for changed in longer, with_byte(longer, 2, 2), with_byte(longer, 3, 5):
@@ -153,11 +163,7 @@ def runs():
 
 def spoiled_record(rng, reasons):
     """A record that gives each of these refusals of 1 to 7 its reason, where the others leave it room."""
-    lot = spoiled(rng, reasons, [rng.randint(-3000, 3000) for _ in range(rng.choice(COUNTS))])
-    data = bytearray(record(lot))
-    if 6 not in reasons and rng.random() < 0.3:
-        data[3], absent = rng.choice(((1, 8), (2, 4)))
-        data[absent : absent + 4] = bytes(4)
+    data = bytearray(record(spoiled(rng, reasons, some(rng, reasons, COUNTS))))
     if 4 in reasons:
         data[12] = rng.choice((0, 1, MOST + 1, 255, data[12] + 1, data[12] - 1))
     if 3 in reasons:
@@ -175,24 +181,25 @@ def spoiled_record(rng, reasons):
 
 def reads(rng):
     accepted = desk(), realistic(rng, 30_000), small(rng, 15_000), uniform(rng, 3_000, RANGE), extreme(rng, 12_000)
-    valid = map(record, itertools.chain(*accepted))
-    reasons = (spoiled_record(rng, reasons) for reasons in subsets((1, 2, 3, 4, 5, 6, 7)) for _ in range(60))
+    valid = map(record, itertools.chain(*accepted, joined(rng, 1_500)))
+    # 10 is no refusal of a record: a longer lot is read as any other
+    reasons = (spoiled_record(rng, reasons) for reasons in subsets((1, 2, 3, 4, 5, 6, 7, 10)) for _ in range(40))
     for data in itertools.chain(valid, edited(rng), resized(rng), runs(), reasons):
         yield line("read", data.hex() or "-")
 
 
 def writes(rng):
     accepted = desk(), realistic(rng, 50_000), small(rng, 25_000), uniform(rng, 5_000, RANGE), extreme(rng, 15_000)
-    for lot in itertools.chain(*accepted):
+    for lot in itertools.chain(*accepted, joined(rng, 2_000), counted(rng)):
         need = HEAD.size + 4 * len(lot[4])
         room = rng.choice((need, need, need, need, need + 1, need + 4, need + 30, need - 1))
         yield line("write", *lot[:4], len(lot[4]), *placed(rng, lot[4]), room)
-    for reasons, _ in itertools.product(subsets((4, 5, 6, 7, 8)), range(400)):
-        count = rng.choice(COUNTS)
-        lot = spoiled(rng, reasons, [rng.randint(-3000, 3000) for _ in range(count)])
-        need = HEAD.size + 4 * count
+    # 10 is no refusal of writing either
+    for reasons, _ in itertools.product(subsets((4, 5, 6, 7, 8, 10)), range(250)):
+        lot = spoiled(rng, reasons, some(rng, reasons, COUNTS))
+        need = HEAD.size + 4 * len(lot[4])
         room = rng.choice((0, 1, 12, 13, need - 4, need - 1) if 8 in reasons else (need, need + 1, need + 60))
-        yield line("write", *lot[:4], rng.choice(UNHELD) if 4 in reasons else count, *placed(rng, lot[4]), room)
+        yield line("write", *lot[:4], rng.choice(UNHELD) if 4 in reasons else len(lot[4]), *placed(rng, lot[4]), room)
 
 
 # Pay.

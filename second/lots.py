@@ -11,6 +11,8 @@ from papers import LAST, MOST, RANGE
 
 INT32 = -(2**31), 2**31 - 1
 COUNTS = range(2, MOST + 1)
+COLUMNS = tuple(papers.TABLE)  # the counts that have one
+JOINED = tuple(count for count in COUNTS if count not in COLUMNS)
 ROWS = range(1, LAST + 1)
 
 # Presences, some of which a narrower number would lose; numbers that stand where none is read; numbers out of range.
@@ -22,7 +24,7 @@ OUTSIDE = RANGE + 1, -RANGE - 1, RANGE + 2, 2**24, -(2**24), *INT32
 EDGES = -RANGE, -RANGE + 1, -1, 0, 1, RANGE - 1, RANGE
 
 
-# Lots that are accepted.
+# Lots that are accepted; a percentage is to be had of them if their count has a column.
 
 
 def desk():
@@ -70,50 +72,68 @@ def characteristic(rng):
     return rng.randrange(91000, 97000), rng.randrange(300, 3000), lower, upper
 
 
-def realistic(rng, times):
+def realistic(rng, times, counts=COLUMNS):
     for _ in range(times):
         middle, spread, lower, upper = characteristic(rng)
         grain = rng.choice((100, 10, 1))  # tests are reported to a tenth, a hundredth or a thousandth
-        readings = [round(rng.gauss(middle, spread) / grain) * grain for _ in range(rng.choice(COUNTS))]
+        readings = [round(rng.gauss(middle, spread) / grain) * grain for _ in range(rng.choice(counts))]
         yield limited(rng, lower, upper, readings)
 
 
-def uniform(rng, times, widest):
+def uniform(rng, times, widest, counts=COLUMNS):
     """Readings and limits that are whole numbers between -widest and widest."""
     for _ in range(times):
-        readings = [rng.randint(-widest, widest) for _ in range(rng.choice(COUNTS))]
+        readings = [rng.randint(-widest, widest) for _ in range(rng.choice(counts))]
         lower, upper = sorted((rng.randint(-widest, widest), rng.randint(-widest, widest)))
         yield limited(rng, lower, upper, readings)
 
 
-def small(rng, times):
+def small(rng, times, counts=COLUMNS):
     for widest in 1, 2, 4, 10, 60:
-        yield from uniform(rng, times // 5, widest)
+        yield from uniform(rng, times // 5, widest, counts)
 
 
-def equal(rng, times):
+def equal(rng, times, counts=COLUMNS):
     for _ in range(times):
         reading = rng.choice((*EDGES, rng.randint(-RANGE, RANGE)))
         near = [max(-RANGE, min(RANGE, reading + off)) for off in (-1000, -1, 0, 1, 1000)]
         lower, upper = sorted((rng.choice(near), rng.choice(near)))
-        yield limited(rng, lower, upper, [reading] * rng.choice(COUNTS))
+        yield limited(rng, lower, upper, [reading] * rng.choice(counts))
 
 
-def extreme(rng, times):
+def extreme(rng, times, counts=COLUMNS):
     for _ in range(times):
-        readings = rng.choices(EDGES, k=rng.choice(COUNTS))
+        readings = rng.choices(EDGES, k=rng.choice(counts))
         lower, upper = sorted(rng.choices(EDGES, k=2))
         yield limited(rng, lower, upper, readings)
 
 
+def joined(rng, times):
+    """Lots of more than ten readings, so many of each make."""
+    makes = realistic, small, equal, extreme
+    wide = uniform(rng, times, RANGE, JOINED)
+    return itertools.chain(wide, *(make(rng, times, JOINED) for make in makes))
+
+
+def farthest_apart(counts):
+    """Readings at both ends of the range in turn, which have the largest deviation of their count."""
+    for count in counts:
+        yield RANGE, 1, -RANGE, 1, ([-RANGE, RANGE] * count)[:count]
+
+
 # Lots at the midpoint between two rows, where the index is exactly (2k-1)/40 for row k, and next to it.
+
+
+def spread_of(readings):
+    """Document 01's V."""
+    return len(readings) * sum(reading * reading for reading in readings) - sum(readings) ** 2
 
 
 def rational(rng, count, widest):
     """Small readings with a deviation that is a fraction, and count times that deviation. Of two there are none."""
     while True:
         readings = [rng.randint(0, widest) for _ in range(count)]
-        spread = count * sum(reading * reading for reading in readings) - sum(readings) ** 2
+        spread = spread_of(readings)
         square, remainder = divmod(count * spread, count - 1)
         root = math.isqrt(square)
         if spread and not remainder and root * root == square:
@@ -129,7 +149,7 @@ def one_sided(rng, upper, readings):
 
 
 def ties(rng, times):
-    for count, row, sign, _ in itertools.product(range(3, MOST + 1), ROWS, (1, -1), range(times)):
+    for count, row, sign, _ in itertools.product(COLUMNS[1:], ROWS, (1, -1), range(times)):
         readings, root = rational(rng, count, 12)
         # over 40 * count, the limit at which the index is (2 * row - 1)/40; the readings are scaled to make it whole
         limit = 40 * sum(readings) + sign * (2 * row - 1) * root
@@ -142,7 +162,7 @@ def ties(rng, times):
 
 def near_ties(rng, times):
     """Any readings, with the two limits between which the row changes."""
-    for count, row, sign, _ in itertools.product(COUNTS, ROWS, (1, -1), range(times)):
+    for count, row, sign, _ in itertools.product(COLUMNS, ROWS, (1, -1), range(times)):
         widest = rng.choice((10, 1000, 100_000))
         readings = [rng.randint(-widest, widest) for _ in range(count - 1)] + [widest + 1]
         change = papers.mean(readings) + sign * (2 * row - 1) * papers.deviation(readings) / 40
@@ -227,24 +247,58 @@ def four_squares(number):
                     return first, second, third, fourth
 
 
+# Out of what readings are drawn whose deviation is half of an odd number. Only these counts have such: V is n(n-1)/4
+# times an odd square, n divides V + T^2, and the quotient, which is the sum of squares, is even or odd as T is. Of
+# sixteen and seventeen they are rare but where most readings are equal.
+HALVED = {4: range(7), 9: range(7), 16: (*[0] * 8, 1, -1), 17: (*[0] * 8, 1, -1)}
+
+
+def halved(rng, count):
+    while True:
+        readings = rng.choices(HALVED[count], k=count)
+        square, remainder = divmod(4 * spread_of(readings), count * (count - 1))
+        root = math.isqrt(square)
+        if root % 2 == 1 and not remainder and root * root == square:
+            return readings
+
+
 def halves(rng, times):
-    """Readings with a deviation exactly half way between two thousandths, which only four or nine can have."""
-    while times > 0:
-        count = rng.choice((4, 9))
-        readings, root = rational(rng, count, 6)
-        if 2 * root % count == 0 and 2 * root // count % 2 == 1:
-            times -= 1
-            scale = rng.randrange(1, 60, 2)
-            yield from one_sided(rng, 0, [scale * reading for reading in readings])
+    """Readings with a deviation exactly half way between two thousandths."""
+    for count in rng.choices(tuple(HALVED), k=times):
+        scale = rng.randrange(1, 60, 2)
+        yield from one_sided(rng, 0, [scale * reading for reading in halved(rng, count)])
 
 
 # Lots that are refused, by every set of reasons.
 
-SIZES = 0, 1, MOST + 1, MOST + 2, 16, 256 + 4
+SIZES = 0, 1, MOST + 1, MOST + 2, 32, 255, 256 + 4
+
+
+def counted(rng):
+    """Every count from 0 to some that no lot has, readings equal and not, and limits of every presence."""
+    counts = *range(MOST + 4), *SIZES[-2:]
+    for count, apart, upper_present, lower_present in itertools.product(counts, (0, 900), (0, 1), (0, 1)):
+        yield 1000, upper_present, -1000, lower_present, [rng.randint(-apart, apart) for _ in range(count)]
 
 
 def subsets(numbers):
     return itertools.chain.from_iterable(itertools.combinations(numbers, size) for size in range(len(numbers) + 1))
+
+
+def some(rng, reasons, sizes):
+    """Readings, now and then equal: as many as no column is for where 10 is a reason, of these sizes where 4 is."""
+    count = rng.choice(sizes if 4 in reasons else JOINED if 10 in reasons else COLUMNS)
+    apart = rng.choice((0, 3000, 3000, 3000))
+    middle = rng.randint(-3000, 3000)
+    return [middle + rng.randint(-apart, apart) for _ in range(count)]
+
+
+def presences(rng, reasons):
+    """Of both limits, or, where they need not lie crossed, of one of them."""
+    if 6 in reasons:
+        return 0, 0
+    upper, lower = rng.choices(PRESENT, k=2)
+    return (upper, lower) if 7 in reasons else rng.choice(((upper, lower), (upper, lower), (upper, 0), (0, lower)))
 
 
 def spoiled(rng, reasons, readings):
@@ -260,11 +314,10 @@ def spoiled(rng, reasons, readings):
             upper = rng.choice(OUTSIDE)
         else:
             lower = rng.choice(OUTSIDE)
-    presence = 0 if 6 in reasons else rng.choice(PRESENT)
-    return upper, presence, lower, presence, readings
+    upper_present, lower_present = presences(rng, reasons)
+    return upper, upper_present, lower, lower_present, readings
 
 
 def refused(rng, times):
-    for reasons, _ in itertools.product(subsets((4, 5, 6, 7)), range(times)):
-        size = rng.choice(SIZES if 4 in reasons else COUNTS)
-        yield spoiled(rng, reasons, [rng.randint(-3000, 3000) for _ in range(size)])
+    for reasons, _ in itertools.product(subsets((4, 5, 6, 7, 10)), range(times)):
+        yield spoiled(rng, reasons, some(rng, reasons, SIZES))

@@ -1,16 +1,20 @@
 """The calculator a second time, as the papers write it: mean, deviation and quality index in wide decimals.
 
 The library works with whole numbers squared. Here the mean is a quotient, the deviation a root and the index the
-limit's distance from that mean over that deviation, and pay is reckoned in percent, dollars and tons. Run by itself it answers calls from standard input, a line
-each, as hosts/answers.c does over the library.
+limit's distance from that mean over that deviation, and pay is reckoned in percent, dollars and tons. Run by itself it
+answers calls from standard input, a line each, as hosts/answers.c does over the library.
 
-Why 60 digits decide an exact tie. With n readings the square of the index is a fraction whose denominator divides
-n * (n * (sum of squares) - (sum)^2), which is at most 2.5e14. Two fractions that differ, one over that and one over
-1600, differ by at least 1/(1600 * 2.5e14) = 2.5e-18. So an index below 2.7 that is not exactly a midpoint (2k-1)/40 is
-more than 4e-19 away from it. The error of working with 60 digits is under 1e-40: sums of ten squares of at most 1e12,
-and a deviation, where there is one, of at least 0.3. Rounding to 30 decimals therefore puts a tie exactly on its
-midpoint and moves no other index across one. A deviation, itself below 1e6, is either half way between two thousandths
-or more than 1e-9 off.
+Why 60 digits decide an exact tie. An index is looked up for at most ten readings. With n of them its square is a
+fraction whose denominator divides n * (n * (sum of squares) - (sum)^2), which is at most 2.5e14. Two fractions that
+differ, one over that and one over 1600, differ by at least 1/(1600 * 2.5e14) = 2.5e-18. So an index below 2.7 that is
+not exactly a midpoint (2k-1)/40 is more than 4e-19 away from it. The error of working with 60 digits is under 1e-40:
+sums of at most seventeen squares of at most 1e12, and a deviation, where there is one, of at least 0.2. Rounding to 30
+decimals therefore puts a tie exactly on its midpoint and moves no other index across one.
+
+A deviation is rounded for up to seventeen readings. Four times its square is a fraction whose denominator divides
+n * (n - 1), which is at most 272, and four times the square of what lies half way between two thousandths is whole. So
+the squares themselves, if they differ, differ by at least 1/(4 * 272), and a deviation, which is below 1e6, is either
+exactly half way or more than 4e-10 off.
 """
 import decimal
 import pathlib
@@ -24,7 +28,7 @@ SNAP = Decimal(1).scaleb(-30)
 HALF = Decimal("0.5")
 
 RANGE = 500_000
-MOST = 10
+MOST = 17
 
 
 class Lot(NamedTuple):
@@ -172,6 +176,7 @@ LOT = [
     (7, lambda lot: lot.upper is not None and lot.lower is not None and lot.lower > lot.upper),
 ]
 READINGS = LOT[:2]  # for a lot without limits
+LOOKUP = [*LOT, (10, lambda lot: lot.count not in TABLE)]  # where a percentage is asked for
 ROOM = [(8, lambda lot, room: room < HEAD.size + 4 * lot.count)]
 RECORD = [
     (1, lambda record: len(record) < HEAD.size or int.from_bytes(record[:2], "big") != len(record) - 2),
@@ -201,7 +206,7 @@ def spaced(*numbers):
     return " ".join(map(str, numbers))
 
 
-def ten_places(lot):
+def in_places(lot):
     """A lot as it stands in memory after reading: an absent limit and a place without a reading are 0."""
     limits = [lot.upper or 0, int(lot.upper is not None), lot.lower or 0, int(lot.lower is not None)]
     return [*limits, lot.count, *lot.readings, *[0] * (MOST - lot.count)]
@@ -211,7 +216,7 @@ def answer_lot(upper, upper_present, lower, lower_present, count, *readings):
     lot = lot_of(upper, upper_present, lower, lower_present, count, readings)
     unread = refusal(READINGS, Lot(None, None, count, readings))
     mean_answer = spaced(unread, 0, 0) if unread else spaced(0, sum(readings), count)
-    refused = refusal(LOT, lot)
+    refused = refusal(LOOKUP, lot)
     if refused:
         return f"{mean_answer} {refused} 0 0 0 {refused} {NOUGHT} {NOUGHT}"
     sides = evaluate(lot)
@@ -220,7 +225,7 @@ def answer_lot(upper, upper_present, lower, lower_present, count, *readings):
 
 def row(lot):
     """The notebook's row: its refusal and three doubles."""
-    refused = refusal(LOT, lot)
+    refused = refusal(LOOKUP, lot)
     if refused:
         return [refused, NOUGHT, NOUGHT, NOUGHT]
     quotients = (sum(lot.readings), 1000 * lot.count), (rounded_deviation(lot.readings), 1000), (evaluate(lot)[2], 100)
@@ -242,7 +247,7 @@ def answer_bytes(upper, upper_present, lower, lower_present, data):
 
 def answer_held(upper, upper_present, lower, lower_present, count, *places):
     lot = lot_of(upper, upper_present, lower, lower_present, count, places)
-    refused = refusal(LOT, lot)
+    refused = refusal(LOOKUP, lot)
     return spaced(refused, *([0] * 3 if refused else evaluate(lot)))
 
 
@@ -259,14 +264,14 @@ def answer_mixture(*given):
 def answer_read(record):
     refused = refusal(RECORD, record) or refusal(LOT[1:], unpack(record))
     if refused:
-        return spaced(refused, *[0] * 15)
+        return spaced(refused, *in_places(Lot(None, None, 0, [])))
     # written again, an accepted record is the same bytes
-    return f"{spaced(0, *ten_places(unpack(record)))} 0 {len(record)} {record.hex()}"
+    return f"{spaced(0, *in_places(unpack(record)))} 0 {len(record)} {record.hex()}"
 
 
 # What the lent memory and a guard on each side of it hold before a write.
 GUARD = 8
-PATTERN = bytes((171 + 37 * place) % 256 for place in range(1024))
+PATTERN = bytes((171 + 37 * place) % 256 for place in range(2048))
 
 
 def answer_write(upper, upper_present, lower, lower_present, count, *places_and_room):
@@ -279,7 +284,7 @@ def answer_write(upper, upper_present, lower, lower_present, count, *places_and_
     record = pack(lot)
     memory = memory[:GUARD] + record + memory[GUARD + len(record) :]
     # what was written is read again as the same lot
-    return f"0 {len(record)} {memory.hex()} {spaced(0, *ten_places(lot))}"
+    return f"0 {len(record)} {memory.hex()} {spaced(0, *in_places(lot))}"
 
 
 ANSWERS = {

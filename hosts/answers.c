@@ -11,9 +11,11 @@
      write U UP L LP COUNT r0..r16 ROOM
                                       what was written, with the lent memory and a guard on each side of it; if it was
                                       accepted, the lot read again
+     cut SUBLOTS ROOM                 how many lots the job has, with the lent list and a guard on each side of it
 
-   U and L are the limits, UP and LP their presences. HEX is bytes in hexadecimal, or - for NULL. Numbers are decimal; a
-   double is given by its bits and memory byte by byte, in hexadecimal. */
+   U and L are the limits, UP and LP their presences. HEX is bytes in hexadecimal, or - for NULL. ROOM counts the bytes
+   that are lent, or the numbers of a list. Numbers are decimal; a double is given by its bits and memory byte by byte,
+   in hexadecimal. */
 #include <errno.h>
 #include <stdio.h>
 #include <stdlib.h>
@@ -21,6 +23,7 @@
 
 #include "tulpavice.h"
 
+/* In bytes or numbers, as the memory that is lent holds them. */
 enum { GUARD = 8, MOST_ROOM = 2000, MOST_MEMORY = GUARD + MOST_ROOM + GUARD };
 
 static char *line; /* the call */
@@ -81,6 +84,19 @@ static int64_t number(int64_t least, int64_t most)
 static int32_t number_i32(void) { return (int32_t)number(INT32_MIN, INT32_MAX); }
 static uint32_t number_u32(void) { return (uint32_t)number(0, UINT32_MAX); }
 static int64_t number_i64(void) { return number(INT64_MIN, INT64_MAX); }
+
+/* Any size, also one above every signed number. */
+static size_t number_size(void)
+{
+    char *end;
+    rest += strspn(rest, " ");
+    errno = 0;
+    size_t value = strtoull(rest, &end, 10);
+    if (end == rest || *rest == '-' || errno)
+        not_understood();
+    rest = end;
+    return value;
+}
 
 /* Memory for this many items; NULL for none. */
 static void *lend(size_t count, size_t size)
@@ -170,7 +186,7 @@ static void print(int64_t value)
 
 static void print_bytes(const uint8_t *bytes, size_t size)
 {
-    char text[1 + 2 * MOST_MEMORY];
+    char text[1 + 2 * sizeof(uint32_t) * MOST_MEMORY];
     text[0] = ' ';
     for (size_t i = 0; i < size; i++) {
         text[1 + 2 * i] = "0123456789abcdef"[bytes[i] >> 4];
@@ -311,19 +327,39 @@ static void answer_read(void)
     }
 }
 
+/* What stands in memory before it is lent to be written. */
+static void fill(void *memory, size_t size)
+{
+    uint8_t *bytes = memory;
+    for (size_t i = 0; i < size; i++)
+        bytes[i] = (uint8_t)(171 + 37 * i);
+}
+
 static void answer_write(void)
 {
     struct tulpavice_lot lot = whole_lot();
     size_t room = (size_t)number(0, MOST_ROOM);
     uint8_t memory[MOST_MEMORY];
-    for (size_t i = 0; i < GUARD + room + GUARD; i++)
-        memory[i] = (uint8_t)(171 + 37 * i);
+    fill(memory, GUARD + room + GUARD);
     struct tulpavice_written answer = tulpavice_write(lot, room ? memory + GUARD : NULL, room);
     print(answer.refusal.number);
     print((int64_t)answer.size);
     print_bytes(memory, GUARD + room + GUARD);
     if (answer.refusal.number == 0)
         print_read(tulpavice_read(memory + GUARD, at_most(answer.size, room)));
+}
+
+static void answer_cut(void)
+{
+    size_t sublots = number_size();
+    size_t room = (size_t)number(0, MOST_ROOM);
+    uint32_t memory[MOST_MEMORY];
+    size_t size = (GUARD + room + GUARD) * sizeof *memory;
+    fill(memory, size);
+    struct tulpavice_listed answer = tulpavice_cut(sublots, room ? memory + GUARD : NULL, room);
+    print(answer.refusal.number);
+    print((int64_t)answer.items);
+    print_bytes((const uint8_t *)memory, size);
 }
 
 static const struct {
@@ -338,6 +374,7 @@ static const struct {
     {"mixture", answer_mixture},
     {"read", answer_read},
     {"write", answer_write},
+    {"cut", answer_cut},
 };
 
 static void answer_line(void)

@@ -11,7 +11,7 @@ from lots import (
     closest_misses, COLUMNS, counted, COUNTS, desk, equal, extreme, farthest_apart, hairs, halves, INT32, JOINED,
     joined, limited, near_ties, realistic, refused, SIZES, small, some, spoiled, subsets, ties, uniform, UNREAD,
 )
-from papers import HEAD, MOST, RANGE, lot_of, pack
+from papers import HEAD, MOST, MOST_SUBLOTS, RANGE, lot_of, lots_of, pack
 
 INT64 = -(2**63), 2**63 - 1
 
@@ -202,6 +202,22 @@ def writes(rng):
         yield line("write", *lot[:4], rng.choice(UNHELD) if 4 in reasons else len(lot[4]), *placed(rng, lot[4]), room)
 
 
+# Jobs.
+
+# A narrower number would take some of these for a job that can be cut.
+UNCUT = MOST_SUBLOTS + 1, 2**16, 2**32, 2**32 + 5, 2**63, 2**64 - 1
+
+
+def cuts(rng):
+    """Every job that can be cut and some that cannot, with lists too short, fitting and longer."""
+    for sublots in range(MOST_SUBLOTS + 105):
+        need = 2 * len(lots_of(sublots))
+        for room in sorted({0, 1, need - 1, need, need + 1, need + rng.randint(2, 40)} - {-1}):
+            yield line("cut", sublots, room)
+    for sublots, room in itertools.product(UNCUT, (0, 1, 2, 3, 817, 818, 819, 2000)):
+        yield line("cut", sublots, room)
+
+
 # Pay.
 
 HUNDRED = 10_000
@@ -281,5 +297,5 @@ def mixtures(rng):
 
 def calls(seed):
     rng = random.Random(seed)
-    for kind in lots, deviations, rows, held, reads, writes, pays, mixtures:
+    for kind in lots, deviations, rows, held, reads, writes, cuts, pays, mixtures:
         yield from kind(rng)

@@ -21,18 +21,19 @@ KINDS = {
     "held": ("lots held", 30_000),
     "read": ("records read", 100_000),
     "write": ("records written", 100_000),
+    "cut": ("jobs cut", 20_000),
     "pay": ("pay inputs", 200_000),
     "mixture": ("mixture lookups", 200_000),
 }
 SHOWN = 5
 
 
-def cut(text):
+def clipped(text):
     return text if len(text) <= 400 else f"{text[:400]}... ({len(text):,} characters)"
 
 
 def show(call, library, second):
-    print(f"call    {cut(call)}\nlibrary {cut(library)}\nsecond  {cut(second)}")
+    print(f"call    {clipped(call)}\nlibrary {clipped(library)}\nsecond  {clipped(second)}")
 
 
 def compare(asked, answers, stop):
@@ -43,7 +44,7 @@ def compare(asked, answers, stop):
             break
         library = answers.readline()
         if not library.endswith("\n"):
-            print(f"the library's answers stop at call {compared.total() + 1:,}: {cut(call.rstrip())}")
+            print(f"the library's answers stop at call {compared.total() + 1:,}: {clipped(call.rstrip())}")
             return compared, differ, True
         kind = call.split(maxsplit=1)[0]
         second = papers.answer(call)

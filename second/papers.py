@@ -1,8 +1,9 @@
 """The calculator a second time, as the papers write it: mean, deviation and quality index in wide decimals.
 
 The library works with whole numbers squared. Here the mean is a quotient, the deviation a root and the index the
-limit's distance from that mean over that deviation, and pay is reckoned in percent, dollars and tons. Run by itself it
-answers calls from standard input, a line each, as hosts/answers.c does over the library.
+limit's distance from that mean over that deviation, pay is reckoned in percent, dollars and tons, and a job is dealt
+out into lots sublot by sublot. Run by itself it answers calls from standard input, a line each, as hosts/answers.c does
+over the library.
 
 Why 60 digits decide an exact tie. An index is looked up for at most ten readings. With n of them its square is a
 fraction whose denominator divides n * (n * (sum of squares) - (sum)^2), which is at most 2.5e14. Two fractions that
@@ -17,6 +18,7 @@ the squares themselves, if they differ, differ by at least 1/(4 * 272), and a de
 exactly half way or more than 4e-10 off.
 """
 import decimal
+import functools
 import pathlib
 import struct
 import sys
@@ -92,7 +94,28 @@ def rounded_deviation(readings):
     return int(deviation(readings).quantize(SNAP).to_integral_value(ROUND_HALF_UP))
 
 
-# Document 000: pay, and limits by mixture.
+# Document 000: lots, pay, and limits by mixture.
+
+WHOLE_LOT = 10
+MOST_REMAINING = 7
+MOST_SUBLOTS = 4096
+
+
+# a job is asked about with several lists in turn
+@functools.lru_cache(maxsize=1)
+def lots_of(sublots):
+    """Of each lot of a job the first sublot and how many it has."""
+    lots = []
+    for sublot in range(sublots):
+        if not lots or len(lots[-1]) == WHOLE_LOT:
+            lots.append([])
+        lots[-1].append(sublot)
+    # the end of production
+    if len(lots) > 1 and len(lots[-1]) <= MOST_REMAINING:
+        remaining = lots.pop()
+        lots[-1].extend(remaining)
+    return [(lot[0], len(lot)) for lot in lots]
+
 
 WEIGHTS = Decimal("0.3"), Decimal("0.3"), Decimal("0.4")
 REJECTABLE = 50
@@ -149,7 +172,7 @@ def big_endian(readings):
     return [int.from_bytes(readings[at : at + 4], "big", signed=True) for at in range(0, len(readings), 4)]
 
 
-# Refusals: of each entry the numbers it can meet with what they are given for, lowest first.
+# Refusals: of each entry the numbers it can meet with what they are given for, in the order they are looked for.
 
 
 def refusal(tests, *given):
@@ -189,6 +212,10 @@ PAY = [(9, lambda *given: any(number < 0 or number > most for number, most in zi
 MIXTURE = [
     (5, lambda _, minimum, target: any(abs(limit) > RANGE // 1000 for limit in offset_limits(minimum, target))),
     (9, lambda mixture, *_: not 0 <= mixture <= 3),
+]
+JOB = [
+    (9, lambda sublots, _: sublots > MOST_SUBLOTS),
+    (8, lambda sublots, room: room < 2 * len(lots_of(sublots))),
 ]
 
 
@@ -269,9 +296,9 @@ def answer_read(record):
     return f"{spaced(0, *in_places(unpack(record)))} 0 {len(record)} {record.hex()}"
 
 
-# What the lent memory and a guard on each side of it hold before a write.
+# What lent memory and a guard on each side of it, so many bytes or numbers, hold before they are written.
 GUARD = 8
-PATTERN = bytes((171 + 37 * place) % 256 for place in range(2048))
+PATTERN = bytes((171 + 37 * place) % 256 for place in range(8192))
 
 
 def answer_write(upper, upper_present, lower, lower_present, count, *places_and_room):
@@ -287,6 +314,20 @@ def answer_write(upper, upper_present, lower, lower_present, count, *places_and_
     return f"0 {len(record)} {memory.hex()} {spaced(0, *in_places(lot))}"
 
 
+NUMBER = 4  # bytes, lowest first, in a lent list
+
+
+def answer_cut(sublots, room):
+    refused = refusal(JOB, sublots, room)
+    memory = PATTERN[: NUMBER * (GUARD + room + GUARD)]
+    if refused:
+        return f"{refused} 0 {memory.hex()}"
+    lots = lots_of(sublots)
+    listed = b"".join(number.to_bytes(NUMBER, "little") for lot in lots for number in lot)
+    memory = memory[: NUMBER * GUARD] + listed + memory[NUMBER * GUARD + len(listed) :]
+    return f"0 {len(lots)} {memory.hex()}"
+
+
 ANSWERS = {
     "lot": answer_lot,
     "deviation": answer_deviation,
@@ -296,6 +337,7 @@ ANSWERS = {
     "mixture": answer_mixture,
     "read": answer_read,
     "write": answer_write,
+    "cut": answer_cut,
 }
 
 

@@ -23,7 +23,7 @@ class Second(unittest.TestCase):
         print(f"\n{said}", flush=True)
         self.assertEqual(status, 0, said)
         counts = [int(number.replace(",", "")) for number in re.findall(r" ([\d,]+) compared, 0 differ", said)]
-        self.assertGreaterEqual(sum(counts), 800_000)
+        self.assertGreaterEqual(sum(counts), 1_000_000)
 
     def test_a_wrong_constant_is_told(self):
         """In a copy of the library the entry for ten readings at index 1.20 is 88.75, where the table has 88.76."""

@@ -1,12 +1,13 @@
-/* Lots as they come from a job: three characteristics near document 000's limits, mostly ten readings, and one in
-   sixteen of each input spoiled, mostly so that it is refused. */
+/* Lots as they come from a job: three characteristics near document 000's limits, mostly ten readings, fewer in one lot
+   of three, and more in one of sixteen, as where what was left over has joined it. One in sixteen of each input is
+   spoiled, mostly so that it is refused. */
 #include "inputs.h"
 
 #include <stdbool.h>
 
 #include "plain.h"
 
-enum { ONE_REFUSED_IN = 16 };
+enum { ONE_REFUSED_IN = 16, ONE_JOINED_IN = 16, WHOLE_LOT = 10 };
 
 /* splitmix64, from a seed of its own */
 static uint64_t state;
@@ -53,9 +54,16 @@ static struct lookup lookup_of_job(void)
     return (struct lookup){between(0, 3), 500 * between(22, 32), 500 * between(6, 10)};
 }
 
+static uint32_t count_of_job(void)
+{
+    if (one_in(ONE_JOINED_IN))
+        return (uint32_t)between(WHOLE_LOT + 1, TULPAVICE_MOST);
+    return one_in(3) ? (uint32_t)between(2, WHOLE_LOT - 1) : WHOLE_LOT;
+}
+
 static struct tulpavice_lot lot_of_job(void)
 {
-    struct tulpavice_lot lot = {.count = one_in(3) ? (uint32_t)between(2, 9) : TULPAVICE_MOST};
+    struct tulpavice_lot lot = {.count = count_of_job()};
     struct lookup job = lookup_of_job();
     struct tulpavice_mixture_limits limits = plain_mixture(job.mixture, job.minimum, job.target);
     switch (between(0, 2)) {
@@ -130,7 +138,7 @@ void make_inputs(struct inputs *inputs, size_t number)
         if (one_in(ONE_REFUSED_IN))
             spoil_lot(&inputs->lots[i]);
         spell(&inputs->lots[i], inputs->bytes[i]);
-        inputs->rooms[i] = one_in(ONE_REFUSED_IN) ? (size_t)between(0, LONGEST_RECORD) : ROOM;
+        inputs->rooms[i] = one_in(ONE_REFUSED_IN) ? (size_t)between(0, TULPAVICE_MOST_BYTES) : ROOM;
         inputs->records[i] = record_of_job();
         inputs->sales[i] = sale_of_job();
         inputs->lookups[i] = lookup_of_job();

@@ -4,10 +4,11 @@
 
 #include "tulpavice.h"
 
-enum { MOST_INPUTS = 4096, LONGEST_RECORD = 53, ROOM = 64 };
+/* Memory for a record goes on past the longest. */
+enum { MOST_INPUTS = 4096, PAST = 8, ROOM = TULPAVICE_MOST_BYTES + PAST };
 
 struct record {
-    uint8_t bytes[LONGEST_RECORD];
+    uint8_t bytes[TULPAVICE_MOST_BYTES];
     size_t size;
 };
 

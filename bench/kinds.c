@@ -49,9 +49,19 @@ CALL(read, struct tulpavice_read)
     return who->read(inputs->records[i].bytes, inputs->records[i].size);
 }
 LOOP(read, struct tulpavice_read, a.refusal.number + a.lot.count + (uint32_t)a.lot.readings[1])
-ANSWER(read, struct tulpavice_read, a.refusal.number, a.lot.upper, a.lot.upper_present, a.lot.lower, a.lot.lower_present,
-       a.lot.count, a.lot.readings[0], a.lot.readings[1], a.lot.readings[2], a.lot.readings[3], a.lot.readings[4],
-       a.lot.readings[5], a.lot.readings[6], a.lot.readings[7], a.lot.readings[8], a.lot.readings[9])
+
+/* All places of a lot that was read, also those without a reading. */
+static size_t answer_read(const struct calculator *who, const struct inputs *inputs, size_t i, int64_t *taken)
+{
+    struct tulpavice_read a = call_read(who, inputs, i);
+    const int64_t head[] = {a.refusal.number, a.lot.upper,         a.lot.upper_present,
+                            a.lot.lower,      a.lot.lower_present, a.lot.count};
+    const size_t n = sizeof head / sizeof *head;
+    memcpy(taken, head, sizeof head);
+    for (size_t j = 0; j < TULPAVICE_MOST; j++)
+        taken[n + j] = a.lot.readings[j];
+    return n + TULPAVICE_MOST;
+}
 
 static uint8_t out[ROOM];
 

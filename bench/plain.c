@@ -7,6 +7,7 @@
 #include "table.h"
 
 enum { FEWEST = 2, FARTHEST = 500000, WHOLE = 10000, LAST_ROW = 53, HEAD = 13 };
+enum { LAST_COLUMN = FEWEST + sizeof TABLE / sizeof *TABLE - 1 };
 
 struct totals {
     int64_t n;
@@ -53,6 +54,15 @@ static uint32_t limits_refused(int32_t upper, bool has_upper, int32_t lower, boo
     return 0;
 }
 
+/* What a percentage of readings and limits in range can still meet: 6, 7 and 10. */
+static uint32_t lookup_refused(int64_t n, int32_t upper, bool has_upper, int32_t lower, bool has_lower)
+{
+    uint32_t refusal = limits_refused(upper, has_upper, lower, has_lower);
+    if (refusal == 0 && n > LAST_COLUMN)
+        refusal = 10;
+    return refusal;
+}
+
 /* The largest k from 0 to 53 with k = 0 or (2k-1)^2 nV <= 1600 (n-1) D^2. */
 static unsigned row(int64_t nv, int64_t reach)
 {
@@ -87,7 +97,7 @@ struct tulpavice_percentages plain_evaluate(const int32_t *readings, size_t coun
     if ((upper_present && out_of_range(upper)) || (lower_present && out_of_range(lower)))
         answer.refusal.number = 5;
     if (answer.refusal.number == 0)
-        answer.refusal.number = limits_refused(upper, upper_present, lower, lower_present);
+        answer.refusal.number = lookup_refused(a.n, upper, upper_present, lower, lower_present);
     if (answer.refusal.number != 0)
         return answer;
     answer.upper = upper_present ? side(&a, a.n * upper - a.t) : WHOLE;
@@ -296,7 +306,7 @@ struct tulpavice_row plain_row(const uint8_t *bytes, size_t size, int32_t upper,
     if ((upper_present && out_of_range(upper)) || (lower_present && out_of_range(lower)))
         answer.refusal.number = 5;
     if (answer.refusal.number == 0)
-        answer.refusal.number = limits_refused(upper, upper_present, lower, lower_present);
+        answer.refusal.number = lookup_refused(a.n, upper, upper_present, lower, lower_present);
     if (answer.refusal.number != 0)
         return answer;
     int64_t above = upper_present ? side(&a, a.n * upper - a.t) : WHOLE;

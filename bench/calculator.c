@@ -58,12 +58,18 @@ static struct tulpavice_row no_row(const uint8_t *readings, size_t size, int32_t
     return (struct tulpavice_row){0};
 }
 
+static struct tulpavice_listed no_cut(size_t sublots, uint32_t *out, size_t room)
+{
+    (void)sublots, (void)out, (void)room;
+    return (struct tulpavice_listed){0};
+}
+
 const struct calculator library = {"library", tulpavice_evaluate, tulpavice_evaluate_lot, tulpavice_read,
                                    tulpavice_write, tulpavice_pay, tulpavice_mixture, tulpavice_mean,
-                                   tulpavice_deviation, tulpavice_row};
+                                   tulpavice_deviation, tulpavice_row, tulpavice_cut};
 
-const struct calculator plain = {"plain", plain_evaluate, plain_evaluate_lot, plain_read, plain_write,
-                                 plain_pay, plain_mixture, plain_mean, plain_deviation, plain_row};
+const struct calculator plain = {"plain", plain_evaluate, plain_evaluate_lot, plain_read, plain_write, plain_pay,
+                                 plain_mixture, plain_mean, plain_deviation, plain_row, plain_cut};
 
-const struct calculator nothing = {"nothing", no_evaluate, no_evaluate_lot, no_read, no_write,
-                                   no_pay, no_mixture, no_mean, no_deviation, no_row};
+const struct calculator nothing = {"nothing", no_evaluate, no_evaluate_lot, no_read, no_write, no_pay,
+                                   no_mixture, no_mean, no_deviation, no_row, no_cut};

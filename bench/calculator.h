@@ -18,6 +18,7 @@ struct calculator {
     struct tulpavice_deviation (*deviation)(const int32_t *readings, size_t count);
     struct tulpavice_row (*row)(const uint8_t *readings, size_t size, int32_t upper, uint32_t upper_present,
                                 int32_t lower, uint32_t lower_present);
+    struct tulpavice_listed (*cut)(size_t sublots, uint32_t *out, size_t room);
 };
 
 /* The library, plain C, and a calculator whose answers are all zero: what a loop of calls costs by itself. */

@@ -129,6 +129,19 @@ static struct sale sale_of_job(void)
     return sale;
 }
 
+/* Mostly of some hundred sublots; it is spoiled by too many, or by a list that is too short. */
+static struct job job_to_cut(void)
+{
+    struct job job = {(size_t)between(0, one_in(8) ? TULPAVICE_MOST_SUBLOTS : 400), LIST};
+    if (one_in(ONE_REFUSED_IN)) {
+        if (one_in(2))
+            job.sublots += TULPAVICE_MOST_SUBLOTS + 1;
+        else
+            job.room = job.sublots / WHOLE_LOT;
+    }
+    return job;
+}
+
 void make_inputs(struct inputs *inputs, size_t number)
 {
     state = 106;
@@ -144,5 +157,6 @@ void make_inputs(struct inputs *inputs, size_t number)
         inputs->lookups[i] = lookup_of_job();
         if (one_in(ONE_REFUSED_IN))
             inputs->lookups[i].mixture = 4;
+        inputs->jobs[i] = job_to_cut();
     }
 }

@@ -4,8 +4,13 @@
 
 #include "tulpavice.h"
 
-/* Memory for a record goes on past the longest. */
-enum { MOST_INPUTS = 4096, PAST = 8, ROOM = TULPAVICE_MOST_BYTES + PAST };
+/* Memory for a record or for a list goes on past the longest. */
+enum {
+    MOST_INPUTS = 4096,
+    PAST = 8,
+    ROOM = TULPAVICE_MOST_BYTES + PAST,
+    LIST = 2 * TULPAVICE_MOST_LOTS + PAST
+};
 
 struct record {
     uint8_t bytes[TULPAVICE_MOST_BYTES];
@@ -26,6 +31,11 @@ struct lookup {
     int32_t target;
 };
 
+struct job {
+    size_t sublots;
+    size_t room;
+};
+
 /* So many of each. A lot is evaluated from its places, as a whole and from its readings as bytes, and written into so
    much room. */
 struct inputs {
@@ -36,6 +46,7 @@ struct inputs {
     struct record records[MOST_INPUTS];
     struct sale sales[MOST_INPUTS];
     struct lookup lookups[MOST_INPUTS];
+    struct job jobs[MOST_INPUTS];
 };
 
 void make_inputs(struct inputs *inputs, size_t number);

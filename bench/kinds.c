@@ -84,6 +84,26 @@ static size_t answer_write(const struct calculator *who, const struct inputs *in
     return 2 + sizeof out;
 }
 
+static uint32_t list[LIST];
+
+CALL(cut, struct tulpavice_listed)
+{
+    return who->cut(inputs->jobs[i].sublots, list, inputs->jobs[i].room);
+}
+LOOP(cut, struct tulpavice_listed, a.refusal.number + a.items + (a.items ? list[2 * a.items - 1] : 0))
+
+/* The list is part of the answer as written memory is. */
+static size_t answer_cut(const struct calculator *who, const struct inputs *inputs, size_t i, int64_t *taken)
+{
+    memset(list, 0xA5, sizeof list);
+    struct tulpavice_listed a = call_cut(who, inputs, i);
+    taken[0] = a.refusal.number;
+    taken[1] = (int64_t)a.items;
+    for (size_t j = 0; j < LIST; j++)
+        taken[2 + j] = list[j];
+    return 2 + LIST;
+}
+
 CALL(pay, struct tulpavice_payment)
 {
     const struct sale *sale = &inputs->sales[i];
@@ -162,6 +182,11 @@ static void show_lookup(const struct inputs *inputs, size_t i)
            lookup->target);
 }
 
+static void show_job(const struct inputs *inputs, size_t i)
+{
+    printf("%zu sublots, room %zu", inputs->jobs[i].sublots, inputs->jobs[i].room);
+}
+
 #define KIND(NAME, SHOW, CALLS) {#NAME, run_##NAME, answer_##NAME, SHOW, CALLS}
 
 /* The deviation's search from zero is slow by design: a turn has fewer of it. */
@@ -171,4 +196,5 @@ const struct kind kinds[KINDS] = {
     KIND(evaluate, show_lot, CALLS), KIND(evaluate_lot, show_lot, CALLS), KIND(read, show_record, CALLS),
     KIND(write, show_lot, CALLS),    KIND(pay, show_sale, CALLS),         KIND(mixture, show_lookup, CALLS),
     KIND(mean, show_lot, CALLS),     KIND(deviation, show_lot, SLOW_CALLS), KIND(row, show_lot, SLOW_CALLS),
+    KIND(cut, show_job, CALLS),
 };

@@ -5,7 +5,8 @@
 #include "calculator.h"
 #include "inputs.h"
 
-enum { MOST_NUMBERS = 2 + ROOM };
+/* A job's list has more than any other answer. */
+enum { MOST_NUMBERS = 2 + LIST };
 
 struct kind {
     const char *name;
@@ -17,7 +18,7 @@ struct kind {
     size_t calls_a_turn;
 };
 
-enum { KINDS = 9 };
+enum { KINDS = 10 };
 
 extern const struct kind kinds[KINDS];
 

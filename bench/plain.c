@@ -6,7 +6,7 @@
 
 #include "table.h"
 
-enum { FEWEST = 2, FARTHEST = 500000, WHOLE = 10000, LAST_ROW = 53, HEAD = 13 };
+enum { FEWEST = 2, FARTHEST = 500000, WHOLE = 10000, LAST_ROW = 53, HEAD = 13, WHOLE_LOT = 10, MOST_JOINED = 7 };
 enum { LAST_COLUMN = FEWEST + sizeof TABLE / sizeof *TABLE - 1 };
 
 struct totals {
@@ -273,6 +273,33 @@ struct tulpavice_written plain_write(struct tulpavice_lot lot, uint8_t *out, siz
     for (size_t i = 0; i < lot.count; i++)
         put(out + HEAD + 4 * i, (uint32_t)lot.readings[i]);
     answer.size = size;
+    return answer;
+}
+
+/* Every lot starts ten after the one before it and has ten, but the last, which has all that is left. */
+struct tulpavice_listed plain_cut(size_t sublots, uint32_t *out, size_t room)
+{
+    struct tulpavice_listed answer = {0};
+    if (sublots > TULPAVICE_MOST_SUBLOTS) {
+        answer.refusal.number = 9;
+        return answer;
+    }
+    /* eight or nine left over count as ten */
+    size_t lots = (sublots + WHOLE_LOT - MOST_JOINED - 1) / WHOLE_LOT;
+    if (lots == 0 && sublots != 0)
+        lots = 1;
+    if (room < 2 * lots) {
+        answer.refusal.number = 8;
+        return answer;
+    }
+    uint32_t start = 0;
+    for (size_t i = 0; i < lots; i++, start += WHOLE_LOT) {
+        out[2 * i] = start;
+        out[2 * i + 1] = WHOLE_LOT;
+    }
+    if (lots != 0)
+        out[2 * lots - 1] = (uint32_t)sublots + WHOLE_LOT - start;
+    answer.items = lots;
     return answer;
 }
 

@@ -13,6 +13,7 @@ struct tulpavice_payment plain_pay(int64_t vma, int64_t voids, int64_t density, 
 struct tulpavice_mixture_limits plain_mixture(int64_t mixture, int32_t minimum, int32_t target);
 struct tulpavice_read plain_read(const uint8_t *bytes, size_t size);
 struct tulpavice_written plain_write(struct tulpavice_lot lot, uint8_t *out, size_t room);
+struct tulpavice_listed plain_cut(size_t sublots, uint32_t *out, size_t room);
 struct tulpavice_row plain_row(const uint8_t *bytes, size_t size, int32_t upper, uint32_t upper_present, int32_t lower,
                                uint32_t lower_present);
 

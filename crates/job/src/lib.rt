@@ -40,13 +40,15 @@ fn fill(sublots: usize, lots: usize, out: &mut [u32])
     requires { ⌜ (sublots ≤ longest-job) × (lots ≡ length (cut sublots)) × (2 * lots ≤ length (now out)) ⌝ }
     ensures { λ r. ⌜ now (out .exit) ≡ item-numbers (cut sublots) ++ drop (2 * lots) (now (out .entry)) ⌝ }
 {
+    let mut start = 0;
     let mut i = 0;
     while i + 1 < lots {
-        put(out, i, 10 * i as u32, 10);
+        put(out, i, start, 10);
+        start += 10;
         i += 1;
     }
     if i < lots {
-        put(out, i, 10 * i as u32, (sublots - 10 * i) as u32);
+        put(out, i, start, sublots as u32 - start);
     }
 }
 

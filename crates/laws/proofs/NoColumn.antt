@@ -8,17 +8,18 @@ use borrow.Author.Tests.{eq-eqb, lt-leb}
 use lib.Dec.{T, leb, eqb}
 use lib.IntN.{ℤ}
 use Rattle.rules.specs.declared.Limit.{Limit}
+use Rattle.rules.specs.declared.Percentages.{Percentages}
 use Rattle.rules.specs.declared.Refusal.{Refusal}
 use Rattle.rules.specs.declared.Refusal.the-variants.{NoColumn}
-use Rattle.rules.specs.Said.{Case, refused, answers, checked, ruled}
+use Rattle.rules.specs.Said.{Said, Case, refused, answers, checked, ruled}
 use Rattle.rules.specs.Lot.{Lot}
 use Rattle.rules.specs.Table.{Found, table-106-1, has-column, entries}
 use Rattle.rules.specs.Percent.{Rule, nearest}
 use Rattle.rules.specs.Refusals.{number-of}
 use Rattle.rules.specs.Notebook.{lent-lot}
 use Rattle.rules.specs.Meets.{readings-meet, counted-meets, column-meets, evaluation-meets, bytes-meet, row-meets, read-meets, write-meets, pay-meets, mixture-meets, cut-meets}
-use Rattle.rules.specs.Entries.{mean-says, deviation-says, column-for, percentages, evaluated, evaluation-says, read-says, write-says, pay-says, mixture-says, cut-says, row-says}
-use Rattle.laws.proofs.Ruled.{ruled-none, ruled-met, ruled-passed, ruled-later}
+use Rattle.rules.specs.Entries.{mean-says, deviation-says, column-for, percentages, evaluated, bare, evaluation-says, read-says, write-says, pay-says, mixture-says, cut-says, row-says}
+use Rattle.laws.proofs.Ruled.{ruled-none, ruled-met, ruled-passed, ruled-first, ruled-later}
 use Rattle.laws.proofs.Table.{table-106-1-has}
 use Rattle.laws.proofs.Refusals.{First, here, later, FirstGiven, first-is-given}
 
@@ -38,14 +39,6 @@ module _ (rule : Rule) (found : Found) (lot : Lot) (ok : checked (counted-meets 
   pub column-is-answered : has-column found ≡ true → evaluated rule found lot ≡ answers (percentages rule (entries found) lot)
   column-is-answered some = last ∙ ruled-passed _ _ _ (ap not some) ∙ ruled-none _
 
-  -- and it is given for nothing else.
-  pub refused-has-no-column : evaluated rule found lot ≡ refused NoColumn → has-column found ≡ false
-  refused-has-no-column e = by (has-column found) refl
-    where
-      by : (b : Bool) → has-column found ≡ b → b ≡ false
-      by true some = absurd (let z : _≡_ {A = ℕ} 0 1 = cc (sym (column-is-answered some) ∙ e) in omega arith)
-      by false none = refl
-
 -- So, by Table 106-1, is every lot of 11 to 17 readings that meets nothing else.
 pub more-than-ten-is-refused : (lot : Lot) → checked (counted-meets lot) ≡ answers tt → 10 < lot .n → evaluation-says lot ≡ refused NoColumn
 unfolding evaluation-says
@@ -59,7 +52,7 @@ pub row-without-column-is-refused :
 unfolding row-says row-meets
 row-without-column-is-refused upper lower bs ok none = ruled-later (bytes-meet bs (lent-lot upper lower bs)) _ _ ok ∙ ruled-met _ _ _ (ap not none)
 
--- ---- elsewhere
+-- ---- and only there
 
 -- whether a refusal of this number is among the cases
 abbrev among : ℕ → List Case → Bool
@@ -76,6 +69,23 @@ first-is-among {r} (c ∷ cs) (later off f) = or-right (eqb (number-of (c .refus
 
 given-is-among : {A : Type 0} (cs : List Case) (a : A) {r : Refusal} → ruled cs a ≡ refused r → T (among (number-of r) cs)
 given-is-among cs a e = first-is-among cs (subst (FirstGiven cs) e (first-is-given cs a))
+
+-- Where an evaluation gives it, the lot meets nothing else, and no column is found.
+pub refused-has-no-column : (rule : Rule) (found : Found) (lot : Lot) → evaluated rule found lot ≡ refused NoColumn → (checked (counted-meets lot) ≡ answers tt) × (has-column found ≡ false)
+unfolding evaluated evaluation-meets
+refused-has-no-column rule found lot e = by (checked (counted-meets lot)) refl
+  where
+    none : checked (counted-meets lot) ≡ answers tt → (b : Bool) → has-column found ≡ b → b ≡ false
+    none ok true some = absurd (let z : _≡_ {A = ℕ} 0 1 = cc (sym (column-is-answered rule found lot ok some) ∙ e) in omega arith)
+    none ok false _ = refl
+
+    by : (s : Said (Unit {0})) → checked (counted-meets lot) ≡ s → (checked (counted-meets lot) ≡ answers tt) × (has-column found ≡ false)
+    by (refused r) met =
+        let same : _≡_ {A = Said Percentages} (refused r) (refused NoColumn) = sym (ruled-first (counted-meets lot) (column-meets found) _ met) ∙ e in
+        absurd (given-is-among (counted-meets lot) tt (met ∙ ap bare same))
+    by (answers u) met = (met, none met (has-column found) refl)
+
+-- ---- elsewhere
 
 pub mean-needs-no-column : (xs : List ℤ) → mean-says xs ≡ refused NoColumn → ⊥
 unfolding mean-says readings-meet

@@ -14,7 +14,9 @@ use rules::WriteAnswer;
 ghost use Prim.Native.Nat.{_<_};
 
 // The record, as document 01 prints it.
-const D5: [u8; 29] =
+const SIZE: usize = 29;
+
+const D5: [u8; SIZE] =
     *b"\x00\x1B\x01\x01\x00\x00\x00\x15\x00\x00\x00\x00\x04\x00\x00\x00\x00\x00\x00\x00\x00\x00\x00\x00\x00\x00\x00\x00\x50";
 
 fn digit(x: u8) -> u8
@@ -36,9 +38,9 @@ fn show_bytes(bytes: &[u8]) {
     }
 }
 
-// Writes a lot into 32 bytes, three more than the record of D5 has.
+// Writes a lot into three bytes more than the record of D5 has.
 fn written(lot: HeldLot) {
-    let mut out = [0xEE; 32];
+    let mut out = [0xEE; SIZE + 3];
     match write(lot, &mut out) {
         WriteAnswer::Answers(size) => count(size as u64),
         WriteAnswer::Refused(refusal) => show::refusal(refusal),

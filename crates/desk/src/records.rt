@@ -13,7 +13,7 @@ use rules::Thousandths;
 use rules::WriteAnswer;
 ghost use Prim.Native.Nat.{_<_};
 
-// The record, as document 01 prints it.
+// How many bytes the record of D5 has, and these as document 01 prints them.
 const SIZE: usize = 29;
 
 const D5: [u8; SIZE] =

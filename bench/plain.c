@@ -1,5 +1,5 @@
-/* Document 01's rules in plain C, as one would write them by hand for speed: every check that the library makes, no
-   search or sum done twice, and nothing that only a machine would write. */
+/* The rules of documents 01 and 02 in plain C, as one would write them by hand for speed: every check that the library
+   makes, no search or sum done twice, and nothing that only a machine would write. */
 #include "plain.h"
 
 #include <stdbool.h>

@@ -47,7 +47,7 @@ extern "C" {
 
 /* The first number goes up where a program must be built anew or is answered otherwise, the second where more is
    offered. docs/VERSIONS.md says what each version has. */
-#define TULPAVICE_VERSION "2.0.0"
+#define TULPAVICE_VERSION "3.0.0"
 
 /* The most readings that a lot can hold, and the most bytes that its record can have. */
 #define TULPAVICE_MOST 17

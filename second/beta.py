@@ -45,7 +45,7 @@ def main():
     differing = [entry for entry in every if entry[-1] > LEAST]
     for count, row, entry, formula, _ in differing:
         print(f"n={count} index {row / 20:.2f}: the table has {entry}, the formula gives {formula:.4f}")
-    print(f"{len(differing)} of {len(every)} entries for n=3 to 10 are more than {LEAST} off")
+    print(f"more than {LEAST} off, for n=3 to 10: {len(differing)} of {len(every)} entries")
     print(f"the others are off by {max(entry[-1] for entry in every if entry[-1] <= LEAST):.4f} at the most")
     print(f"with the half and the 2 both, as document 003 is printed, {sum(entry[-1] > LEAST for entry in held(2))} would be")
 

@@ -46,7 +46,7 @@ def lot_of(upper, upper_present, lower, lower_present, count, readings):
     return Lot(upper if upper_present else None, lower if lower_present else None, count, readings[:count])
 
 
-# Table 106-1 of document 004, in percent: a list of 54 entries for each number of readings.
+# Table 106-1 of document 004, as document 02 corrects it, in percent: a list of 54 entries for each number of readings.
 
 
 def columns():

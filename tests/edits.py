@@ -2,9 +2,9 @@
 
 An edit is a file must-fail/CRATE/LABEL.edit, which the proofs of CRATE must refuse, whether it changes that crate's code or a definition below
 it: a comment that says which wrong answer or wrong rule it plants; `refused: NAME..`, each a proof in which a fact falls (a function's, as
-`row::admits`, or a file of laws); and the kit's own lines `file:`, `old:`, `new:`, with paths from the root. Those that the kit tries by itself,
-from nothing, stand in crates/CRATE/must-fail, with paths from the crate. An edit of must-not-compile/CRATE is for the compiler: what it
-must say stands behind `refused:`.
+`row::admits`, or a file of laws); and the kit's own lines `file:`, `old:`, `new:`, with paths from the root, where `\\n` goes on to the next line.
+Those that the kit tries by itself, from nothing, stand in crates/CRATE/must-fail, with paths from the crate. An edit of must-not-compile/CRATE is
+for the compiler: what it must say stands behind `refused:`.
 """
 import re
 from collections import namedtuple
@@ -16,13 +16,18 @@ Edit = namedtuple("Edit", "name crate file comment refused changes")
 Change = namedtuple("Change", "path old new")
 
 
+def lines_of(text):
+    """A text of an edit, which stands on one line, as it stands in the file."""
+    return text.replace("\\n", "\n")
+
+
 def read_edit(file, name, crate, folder=""):
     """An edit as it is written; `folder` is what its paths start from."""
     comment, refused, changes, path, old = [], "", [], "", ""
     for line in file.read_text("utf-8").split("\n"):
         key, _, rest = line.partition(":")
         if key == "new":
-            changes.append(Change(path, old, rest.removeprefix(" ")))
+            changes.append(Change(path, lines_of(old), lines_of(rest.removeprefix(" "))))
             old = ""
         elif line.startswith(("file: ", "old: ")):
             path, old = (folder + rest[1:], old) if key == "file" else (path, rest[1:])

@@ -1,11 +1,19 @@
-"""Table 106-1: the constants of the crate, through what its program prints, are the data file, and that is document 004."""
+"""Table 106-1: the constants of the crate, through what its program prints, are the data file, and that is document 004 with the corrections of
+document 02."""
 import pathlib
 import re
 import unittest
 
 ROOT = pathlib.Path(__file__).resolve().parent.parent
 DATA = ROOT / "data/table-106-1.tsv"
+CORRECTIONS = ROOT / "data/table-106-1-corrections.tsv"
 PRINTED = ROOT / "target/log/printed.stdout"
+
+
+def cells_of(file):
+    """The cells of a data file: those of its first line, and those of the others."""
+    head, *rows = [line.split("\t") for line in file.read_text(encoding="ascii").splitlines()]
+    return head, rows
 
 
 def document_004():
@@ -19,9 +27,15 @@ def rows_of(document):
     return [[row[0], *row[2:]] for row in cells if len(row) == 11 and re.fullmatch(r"\d\.\d\d", row[0])]
 
 
+def differences(printed, ours):
+    """Each entry in which the rows of two tables differ, as a correction is written: its count, its index, as printed and as it is here."""
+    return [[str(n), theirs[0], theirs[n - 1], own[n - 1]]
+            for n in range(2, 11) for theirs, own in zip(printed, ours, strict=True) if theirs[n - 1] != own[n - 1]]
+
+
 class Table(unittest.TestCase):
     def test_data_is_a_whole_table(self):
-        head, *rows = [line.split("\t") for line in DATA.read_text().splitlines()]
+        head, rows = cells_of(DATA)
         self.assertEqual(head, ["index"] + [f"n={n}" for n in range(2, 11)])
         self.assertEqual([row[0] for row in rows], [f"{k / 20:.2f}" for k in range(54)])
         self.assertTrue(all(re.fullmatch(r"\d+\.\d\d", cell) for row in rows for cell in row))
@@ -29,7 +43,21 @@ class Table(unittest.TestCase):
     def test_program_prints_the_data(self):
         self.assertEqual(PRINTED.read_text(), DATA.read_text())
 
+    def test_data_is_corrected(self):
+        head, corrections = cells_of(CORRECTIONS)
+        self.assertEqual(head, ["n", "index", "printed", "corrected"])
+        rows = {row[0]: row for row in cells_of(DATA)[1]}
+        self.assertEqual([rows[index][int(n) - 1] for n, index, _, _ in corrections], [corrected for *_, corrected in corrections])
+
+    def test_each_difference_is_seen(self):
+        rows = cells_of(DATA)[1]
+        self.assertEqual(differences(rows, rows), [])
+        other = [[*row] for row in rows]
+        other[0][1], other[53][9] = "50.01", "99.99"
+        self.assertEqual(differences(other, rows), [["2", "0.00", "50.01", "50.00"], ["10", "2.65", "99.99", "100.00"]])
+
     @unittest.skipUnless(document_004(), "document 004 does not lie beside this checkout")
-    def test_data_is_document_004(self):
-        rows = [line.split("\t") for line in DATA.read_text().splitlines()[1:]]
-        self.assertEqual(rows, rows_of(document_004()))
+    def test_data_is_document_004_corrected(self):
+        printed, ours = rows_of(document_004()), cells_of(DATA)[1]
+        self.assertEqual([row[0] for row in printed], [row[0] for row in ours])
+        self.assertEqual(differences(printed, ours), cells_of(CORRECTIONS)[1])

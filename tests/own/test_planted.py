@@ -145,6 +145,10 @@ class Trial(unittest.TestCase):
     def test_wrong_code_that_the_prover_proves_itself_is_refused(self):
         self.says("", "sums", AFTER)
 
+    def test_an_edit_of_two_lines(self):
+        self.says("", "laws", RULE, ("old: n + 3", r"old: unfoldable pub row : ℕ → ℕ\nrow n = n + 3"),
+                  ("new: n + 4", r"new: unfoldable pub row : ℕ → ℕ\nrow n = n + 4"))
+
     def test_what_no_law_sees_is_not_refused(self):
         self.says("NOT REFUSED", "laws", RULE, ("old: n + 3", "old: 2 * n"), ("new: n + 4", "new: 3 * n"))
 

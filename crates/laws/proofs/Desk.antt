@@ -1,5 +1,5 @@
--- D1 to D10 as one statement over their list, by computation from the definitions. The deviations are tested by their two inequalities,
--- which determine them, so that no search is run.
+-- D1 to D10 as one statement over their list, and what the entries that document 02 corrects give, by computation from the definitions. The deviations
+-- are tested by their two inequalities, which determine them, so that no search is run.
 use mathlib.Core.Path.{_≡_, refl, ap}
 use Prim.Native.Nat.{ℕ, _≤_}
 use lib.Dec.{T, lit≤}
@@ -14,7 +14,7 @@ use Rattle.rules.specs.Refusals.{any-out}
 use Rattle.rules.specs.Meets.{readings-meet, evaluation-meets}
 use Rattle.rules.specs.Entries.{evaluated, evaluation-says, deviation-says, percentages-of}
 use Rattle.laws.specs.Every.{Every, done, _then_}
-use Rattle.laws.specs.Desk.{Holds, examples}
+use Rattle.laws.specs.Desk.{Holds, examples, corrected}
 use Rattle.laws.proofs.Deviation.{only-deviation-meets}
 
 found : (n v : ℕ) {s : ℕ} → 2 ≤ n → T (is-deviation n (pos v) s) → _≡_ {A = Said Thousandths} (answers (thousandths (pos (deviation n (pos v))))) (answers (thousandths (pos s)))
@@ -36,3 +36,7 @@ desk =
     found 2 1 (lit≤ tt) tt then  -- D9
     found 2 1000000000000 (lit≤ tt) tt then  -- D10
     done
+
+pub corrected-entries : Every Holds corrected
+unfolding ruled rows table-106-1 sum squares spread upper-distance lower-distance index-squared midpoint-squared admits largest nearest side upper-side lower-side any-out evaluation-meets evaluated evaluation-says percentages-of
+corrected-entries = refl then refl then refl then done

@@ -44,7 +44,7 @@ unfolding ofBits
 row-is-given = (λ row. refl, refl)
 
 -- D9 as bytes: of 0 and 1, with an upper limit of 1.
-pub d9-row : row-says (at 1) Absent (in-fours (pos 0 ∷ pos 1 ∷ [])) ≡ answers (row-of (pos 1) 2 (pos 1) (pos 7249))
+pub d9-row : row-says (at 1) Absent (in-fours (pos 0 ∷ pos 1 ∷ [])) ≡ answers (row-of (pos 1) 2 (pos 1) (pos 7349))
 unfolding row-says row-meets lent-lot ruled in-fours spell spelled fours any-out sum squares spread upper-distance lower-distance index-squared midpoint-squared admits largest nearest side upper-side lower-side rows table-106-1 percentages-of deviation first-from
 d9-row = refl
 

@@ -1,4 +1,5 @@
--- Document 01, "Desk examples": those marked D, as it prints them.
+-- Document 01, "Desk examples": those marked D, as it prints them but for the percentage of D9, which document 02, R-2, corrects. And what each of
+-- the entries that R-2 corrects gives.
 use mathlib.Core.Path.{_≡_}
 use mathlib.Core.List.{List, [], _∷_}
 use Prim.Native.Nat.{ℕ}
@@ -58,7 +59,16 @@ examples =
     pwl (pos 0 ∷ pos 0 ∷ pos 0 ∷ pos 80 ∷ []) (at 19) Absent 4833 ∷  -- D6
     pwl (pos 0 ∷ pos 0 ∷ pos 0 ∷ pos 80 ∷ []) (at 20) Absent 5000 ∷  -- D7
     pwl (pos 0 ∷ pos 0 ∷ pos 0 ∷ pos 80 ∷ []) (at 21) (at 19) 334 ∷  -- D8
-    pwl (pos 0 ∷ pos 1 ∷ []) (at 1) Absent 7249 ∷  -- D9
+    pwl (pos 0 ∷ pos 1 ∷ []) (at 1) Absent 7349 ∷  -- D9
     deviation (pos 0 ∷ pos 1 ∷ []) 1 ∷  -- D9
     deviation (negℤ (pos 500000) ∷ pos 500000 ∷ []) 707107 ∷  -- D10
+    []
+
+-- Of the two corrected entries D1 to D10 see that at n = 2, for an index of 0 or more. Here are its index below 0, and n = 3 at an index of exactly
+-- 0.20 and −0.20.
+abbrev pub corrected : List Example
+corrected =
+    pwl (pos 0 ∷ pos 1000 ∷ pos 2000 ∷ []) (at 1200) Absent 5554 ∷
+    pwl (pos 0 ∷ pos 1000 ∷ pos 2000 ∷ []) (at 800) Absent 4446 ∷
+    pwl (pos 0 ∷ pos 1 ∷ []) (at 0) Absent 2651 ∷
     []

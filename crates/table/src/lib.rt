@@ -1,4 +1,4 @@
-// Table 106-1 of document 004, as printed, a column at a time, and for which counts it has one; and an entry of any column.
+// Table 106-1 of document 004, as document 02 corrects it, a column at a time, and for which counts it has one; and an entry of any column.
 mod columns;
 
 use columns::FROM_2;

@@ -24,6 +24,7 @@ MAY_BE_SKIPPED = {
     "test_library.Library.test_from_python",  # the library can be loaded on x86-64 alone
     "test_notebook.Example.test_readings_are_those_of_document_000",  # the papers do not always lie beside a checkout
     "test_notebook.Usage.test_answers_that_cannot_be_written",  # not every system has a full device
+    "test_table.Table.test_corrections_are_those_of_document_02",
     "test_table.Table.test_data_is_document_004_corrected",
 }
 # Where time goes, and the lines of a step that name its seconds.

@@ -1,5 +1,5 @@
 """Table 106-1: the constants of the crate, through what its program prints, are the data file, and that is document 004 with the corrections of
-document 02."""
+document 02 and no others."""
 import pathlib
 import re
 import unittest
@@ -16,15 +16,25 @@ def cells_of(file):
     return head, rows
 
 
-def document_004():
-    """The source paper, where it lies beside the checkout."""
-    return next(iter(sorted((ROOT.parent / "shared").glob("004_*.txt"))), None)
+def paper(pattern):
+    """A paper, where it lies beside the checkout."""
+    return next(iter(sorted((ROOT.parent / "shared").glob(pattern))), None)
+
+
+DOCUMENT_004, DOCUMENT_02 = paper("004_*.txt"), paper("02-*.md")
 
 
 def rows_of(document):
     """Index and columns n = 2 to 10 of each printed row; the first column, n = 1, is not used."""
     cells = [line.split("\t") for line in document.read_text(encoding="utf-8").splitlines()]
     return [[row[0], *row[2:]] for row in cells if len(row) == 11 and re.fullmatch(r"\d\.\d\d", row[0])]
+
+
+def corrections_of(request):
+    """Each correction that document 02 asks for, by count and index: its count, its index, as printed and as it should be."""
+    text = request.read_text(encoding="utf-8")
+    found = re.findall(r"at n=(\d+), index (\d\.\d\d), the printed (\d+\.\d\d) should be (\d+\.\d\d)", text)
+    return sorted(list(correction) for correction in found)
 
 
 def differences(printed, ours):
@@ -56,8 +66,12 @@ class Table(unittest.TestCase):
         other[0][1], other[53][9] = "50.01", "99.99"
         self.assertEqual(differences(other, rows), [["2", "0.00", "50.01", "50.00"], ["10", "2.65", "99.99", "100.00"]])
 
-    @unittest.skipUnless(document_004(), "document 004 does not lie beside this checkout")
+    @unittest.skipUnless(DOCUMENT_02, "document 02 does not lie beside this checkout")
+    def test_corrections_are_those_of_document_02(self):
+        self.assertEqual(corrections_of(DOCUMENT_02), cells_of(CORRECTIONS)[1])
+
+    @unittest.skipUnless(DOCUMENT_004, "document 004 does not lie beside this checkout")
     def test_data_is_document_004_corrected(self):
-        printed, ours = rows_of(document_004()), cells_of(DATA)[1]
+        printed, ours = rows_of(DOCUMENT_004), cells_of(DATA)[1]
         self.assertEqual([row[0] for row in printed], [row[0] for row in ours])
         self.assertEqual(differences(printed, ours), cells_of(CORRECTIONS)[1])

@@ -34,7 +34,7 @@ def corrections_of(request):
     """Each correction that document 02 asks for, by count and index: its count, its index, as printed and as it should be."""
     text = request.read_text(encoding="utf-8")
     found = re.findall(r"at n=(\d+), index (\d\.\d\d), the printed (\d+\.\d\d) should be (\d+\.\d\d)", text)
-    return sorted(list(correction) for correction in found)
+    return sorted(map(list, found), key=lambda correction: (int(correction[0]), correction[1]))
 
 
 def differences(printed, ours):

@@ -54,9 +54,11 @@ static uint32_t limits_refused(int32_t upper, bool has_upper, int32_t lower, boo
     return 0;
 }
 
-/* What a percentage of readings and limits in range can still meet: 6, 7 and 10. */
+/* What a percentage of readings in range can still meet: 5 for a limit, then 6, 7 and 10. */
 static uint32_t lookup_refused(int64_t n, int32_t upper, bool has_upper, int32_t lower, bool has_lower)
 {
+    if ((has_upper && out_of_range(upper)) || (has_lower && out_of_range(lower)))
+        return 5;
     uint32_t refusal = limits_refused(upper, has_upper, lower, has_lower);
     if (refusal == 0 && n > LAST_COLUMN)
         refusal = 10;
@@ -92,10 +94,6 @@ struct tulpavice_percentages plain_evaluate(const int32_t *readings, size_t coun
     struct tulpavice_percentages answer = {0};
     struct totals a;
     answer.refusal.number = total(readings, count, &a);
-    if (answer.refusal.number == 4)
-        return answer;
-    if ((upper_present && out_of_range(upper)) || (lower_present && out_of_range(lower)))
-        answer.refusal.number = 5;
     if (answer.refusal.number == 0)
         answer.refusal.number = lookup_refused(a.n, upper, upper_present, lower, lower_present);
     if (answer.refusal.number != 0)
@@ -328,10 +326,6 @@ struct tulpavice_row plain_row(const uint8_t *bytes, size_t size, int32_t upper,
     struct tulpavice_row answer = {0};
     struct totals a;
     answer.refusal.number = total_bytes(bytes, size, &a);
-    if (answer.refusal.number == 4)
-        return answer;
-    if ((upper_present && out_of_range(upper)) || (lower_present && out_of_range(lower)))
-        answer.refusal.number = 5;
     if (answer.refusal.number == 0)
         answer.refusal.number = lookup_refused(a.n, upper, upper_present, lower, lower_present);
     if (answer.refusal.number != 0)

@@ -65,26 +65,30 @@ static uint32_t lookup_refused(int64_t n, int32_t upper, bool has_upper, int32_t
     return refusal;
 }
 
-/* The largest k from 0 to 53 with k = 0 or (2k-1)^2 nV <= 1600 (n-1) D^2. */
-static unsigned row(int64_t nv, int64_t reach)
+/* The largest k from 0 to 53 with k = 0 or (2k-1)^2 nV <= 1600 (n-1) D^2, and how many were tried. */
+static unsigned row(int64_t nv, int64_t reach, uint32_t *tried)
 {
     unsigned low = 0, high = LAST_ROW;
+    uint32_t tries = 0;
     while (low < high) {
         unsigned middle = (low + high + 1) / 2;
         int64_t odd = 2 * middle - 1;
+        tries++;
         if (odd * odd * nv <= reach)
             low = middle;
         else
             high = middle - 1;
     }
+    *tried = tries;
     return low;
 }
 
-static int64_t side(const struct totals *a, int64_t d)
+/* The rows tried are left as they are where none is. */
+static int64_t side(const struct totals *a, int64_t d, uint32_t *tried)
 {
     int64_t entry = WHOLE;
     if (a->v != 0)
-        entry = TABLE[a->n - FEWEST][row(a->n * a->v, 1600 * (a->n - 1) * d * d)];
+        entry = TABLE[a->n - FEWEST][row(a->n * a->v, 1600 * (a->n - 1) * d * d, tried)];
     return d < 0 ? WHOLE - entry : entry;
 }
 
@@ -98,8 +102,8 @@ struct tulpavice_percentages plain_evaluate(const int32_t *readings, size_t coun
         answer.refusal.number = lookup_refused(a.n, upper, upper_present, lower, lower_present);
     if (answer.refusal.number != 0)
         return answer;
-    answer.upper = upper_present ? side(&a, a.n * upper - a.t) : WHOLE;
-    answer.lower = lower_present ? side(&a, a.t - a.n * lower) : WHOLE;
+    answer.upper = upper_present ? side(&a, a.n * upper - a.t, &answer.tried_upper) : WHOLE;
+    answer.lower = lower_present ? side(&a, a.t - a.n * lower, &answer.tried_lower) : WHOLE;
     answer.pwl = answer.upper + answer.lower - WHOLE;
     return answer;
 }
@@ -330,8 +334,9 @@ struct tulpavice_row plain_row(const uint8_t *bytes, size_t size, int32_t upper,
         answer.refusal.number = lookup_refused(a.n, upper, upper_present, lower, lower_present);
     if (answer.refusal.number != 0)
         return answer;
-    int64_t above = upper_present ? side(&a, a.n * upper - a.t) : WHOLE;
-    int64_t below = lower_present ? side(&a, a.t - a.n * lower) : WHOLE;
+    uint32_t tried; /* which the notebook does not show */
+    int64_t above = upper_present ? side(&a, a.n * upper - a.t, &tried) : WHOLE;
+    int64_t below = lower_present ? side(&a, a.t - a.n * lower, &tried) : WHOLE;
     answer.mean = (double)a.t / (double)(1000 * a.n);
     answer.deviation = (double)rounded_deviation(&a) / 1000;
     answer.pwl = (double)(above + below - WHOLE) / 100;

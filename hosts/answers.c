@@ -211,6 +211,8 @@ static void print_percentages(struct tulpavice_percentages answer)
     print(answer.upper);
     print(answer.lower);
     print(answer.pwl);
+    print(answer.tried_upper);
+    print(answer.tried_lower);
 }
 
 static void print_row(struct tulpavice_row answer)

@@ -26,11 +26,13 @@ SIZE(deviation, 8);
 AT(deviation, refusal, 0);
 AT(deviation, deviation, 4);
 
-SIZE(percentages, 32);
+SIZE(percentages, 40);
 AT(percentages, refusal, 0);
 AT(percentages, upper, 8);
 AT(percentages, lower, 16);
 AT(percentages, pwl, 24);
+AT(percentages, tried_upper, 32);
+AT(percentages, tried_lower, 36);
 
 SIZE(payment, 40);
 AT(payment, refusal, 0);

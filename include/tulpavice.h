@@ -47,7 +47,7 @@ extern "C" {
 
 /* The first number goes up where a program must be built anew or is answered otherwise, the second where more is
    offered. docs/VERSIONS.md says what each version has. */
-#define TULPAVICE_VERSION "3.0.0"
+#define TULPAVICE_VERSION "4.0.0"
 
 /* The most readings that a lot can hold, and the most bytes that its record can have. */
 #define TULPAVICE_MOST 17
@@ -85,12 +85,15 @@ struct tulpavice_deviation {
     int32_t deviation;
 };
 
-/* The percentage of each side, and percent within limits. */
+/* The percentage of each side, percent within limits, and how many rows of the table were tried for each side: 5 or 6,
+   but 0 for an absent limit, and 0 where all readings are equal. */
 struct tulpavice_percentages {
     struct tulpavice_refusal refusal;
     int64_t upper;
     int64_t lower;
     int64_t pwl;
+    uint32_t tried_upper;
+    uint32_t tried_lower;
 };
 
 /* The composite, the verdict on each characteristic and on the lot (0 accepted, 1 rejected), and what is paid. */

@@ -56,6 +56,18 @@ def compare(asked, answers, stop):
     return compared, differ, False
 
 
+def rows_missed():
+    """Reports which rows took how many tries; whether one was never looked up inside a limit or outside, or took other tries elsewhere."""
+    took = collections.defaultdict(set)
+    for row, inside, tried in papers.LOOKED_UP:
+        took[row, inside].add(tried)
+    alike = all(took[row, True] == took[row, False] and len(took[row, True]) == 1 for row in range(papers.LAST + 1))
+    for tries in sorted(set().union(*took.values())):
+        rows = [row for row in range(papers.LAST + 1) if took[row, True] == took[row, False] == {tries}]
+        print(f"rows found by {tries} tries, inside and outside: {len(rows)}, {' '.join(map(str, rows))}")
+    return not alike
+
+
 def main():
     parser = argparse.ArgumentParser()
     parser.add_argument("--seed", type=int, default=106)

@@ -17,6 +17,7 @@ n * (n - 1), which is at most 272, and four times the square of what lies half w
 the squares themselves, if they differ, differ by at least 1/(4 * 272), and a deviation, which is below 1e6, is either
 exactly half way or more than 4e-10 off.
 """
+import collections
 import decimal
 import functools
 import pathlib
@@ -72,22 +73,46 @@ def deviation(readings):
     return (squares / (len(readings) - 1)).sqrt()
 
 
+def halved(twentieths):
+    """The row at which halving all rows ends, for an index of so many twentieths, and how many are tried (document 02).
+
+    Of the rows that are left the first of their upper half is tried, which is the middle of document 02. It is admitted
+    where the index is not below the midpoint between it and the row before."""
+    rows, tried = range(LAST + 1), 0
+    while len(rows) > 1:
+        half = len(rows) // 2
+        rows = rows[half:] if twentieths >= rows[half] - HALF else rows[:half]
+        tried += 1
+    return rows[0], tried
+
+
+# How often each row was looked up, inside the limit (True) or outside, and the tries that it took.
+LOOKED_UP = collections.Counter()
+
+
 def side(count, distance, spread):
-    """The percentage on one side, whose limit lies this far outside the mean."""
+    """The percentage on one side, whose limit lies this far outside the mean, and how many rows a handheld tries."""
     if spread == 0:
-        return 100 if distance >= 0 else 0
+        return 100 if distance >= 0 else 0, 0
     index = distance / spread
-    row = int((abs(index) * 20).quantize(SNAP) + HALF)
-    entry = TABLE[count][min(row, LAST)]
-    return entry if index >= 0 else 100 - entry
+    twentieths = (abs(index) * 20).quantize(SNAP)
+    row = min(int(twentieths + HALF), LAST)
+    end, tried = halved(twentieths)
+    assert end == row, f"halving ends at row {end}, and the nearest is {row}"
+    LOOKED_UP[row, index >= 0, tried] += 1
+    entry = TABLE[count][row]
+    return entry if index >= 0 else 100 - entry, tried
+
+
+NO_LIMIT = 100, 0
 
 
 def evaluate(lot):
-    """Upper, lower and PWL, in hundredths of a percent."""
+    """Upper, lower and PWL, in hundredths of a percent, and the rows tried for the upper and for the lower."""
     middle, spread = mean(lot.readings), deviation(lot.readings)
-    upper = 100 if lot.upper is None else side(lot.count, lot.upper - middle, spread)
-    lower = 100 if lot.lower is None else side(lot.count, middle - lot.lower, spread)
-    return [int(percent * 100) for percent in (upper, lower, upper + lower - 100)]
+    upper, upper_tried = NO_LIMIT if lot.upper is None else side(lot.count, lot.upper - middle, spread)
+    lower, lower_tried = NO_LIMIT if lot.lower is None else side(lot.count, middle - lot.lower, spread)
+    return [*(int(percent * 100) for percent in (upper, lower, upper + lower - 100)), upper_tried, lower_tried]
 
 
 def rounded_deviation(readings):
@@ -245,7 +270,7 @@ def answer_lot(upper, upper_present, lower, lower_present, count, *readings):
     mean_answer = spaced(unread, 0, 0) if unread else spaced(0, sum(readings), count)
     refused = refusal(LOOKUP, lot)
     if refused:
-        return f"{mean_answer} {refused} 0 0 0 {refused} {NOUGHT} {NOUGHT}"
+        return f"{mean_answer} {refused} 0 0 0 0 0 {refused} {NOUGHT} {NOUGHT}"
     sides = evaluate(lot)
     return f"{mean_answer} {spaced(0, *sides)} 0 {double(sum(readings), 1000 * count)} {double(sides[2], 100)}"
 
@@ -275,7 +300,7 @@ def answer_bytes(upper, upper_present, lower, lower_present, data):
 def answer_held(upper, upper_present, lower, lower_present, count, *places):
     lot = lot_of(upper, upper_present, lower, lower_present, count, places)
     refused = refusal(LOOKUP, lot)
-    return spaced(refused, *([0] * 3 if refused else evaluate(lot)))
+    return spaced(refused, *([0] * 5 if refused else evaluate(lot)))
 
 
 def answer_pay(*given):

@@ -23,6 +23,7 @@ use rules::host::HostPayment;
 use rules::host::HostPercentages;
 use rules::host::HostRefusal;
 use rules::host::HostRow;
+use rules::host::HostTried;
 use rules::host::HostWritten;
 ghost use mathlib.Core.Path.{_≡_};
 ghost use Rattle.rules.specs.Notebook.{lent-limit};
@@ -92,12 +93,17 @@ pub fn percentages(answer: Evaluation) -> HostPercentages
             upper: 0,
             lower: 0,
             pwl: 0,
+            tried: HostTried { upper: 0, lower: 0 },
         },
         Evaluation::Answers(p) => HostPercentages {
             refusal: UNREFUSED,
             upper: p.upper.0,
             lower: p.lower.0,
             pwl: p.pwl.0,
+            tried: HostTried {
+                upper: p.tried.upper,
+                lower: p.tried.lower,
+            },
         },
     }
 }

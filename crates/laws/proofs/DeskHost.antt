@@ -111,9 +111,9 @@ pub deviation-is-given :
 deviation-is-given = (refl, refl)
 
 pub percentages-are-given :
-    (host-percentages (refused Unlimited) ≡ record { refusal = numbered 6; upper = pos 0; lower = pos 0; pwl = pos 0 }) ×
-    (host-percentages (answers (record { upper = hundredths (pos 9337); lower = hundredths (pos 9791); pwl = hundredths (pos 9128) })) ≡
-    record { refusal = numbered 0; upper = pos 9337; lower = pos 9791; pwl = pos 9128 })
+    (host-percentages (refused Unlimited) ≡ record { refusal = numbered 6; upper = pos 0; lower = pos 0; pwl = pos 0; tried = record { upper = 0; lower = 0 } }) ×
+    (host-percentages (answers (record { upper = hundredths (pos 9337); lower = hundredths (pos 9791); pwl = hundredths (pos 9128); tried = record { upper = 6; lower = 5 } })) ≡
+    record { refusal = numbered 0; upper = pos 9337; lower = pos 9791; pwl = pos 9128; tried = record { upper = 6; lower = 5 } })
 percentages-are-given = (refl, refl)
 
 -- A verdict's number is 0 accepted, 1 rejected.

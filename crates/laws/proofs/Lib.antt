@@ -19,6 +19,8 @@ pub mod Walked
 pub mod Accepted
 pub mod Largest
 pub mod Row
+pub mod Halving
+pub mod RowsTried
 pub mod NearestRow
 pub mod SquaresOff
 pub mod PublishedIndex
@@ -73,4 +75,5 @@ pub mod Deviation
 pub mod PublishedDeviation
 pub mod PublishedAnswers
 pub mod RowAnswers
+pub mod TriedAnswers
 pub mod Desk

@@ -14,6 +14,7 @@ use Rattle.rules.specs.Said.{answers, ruled}
 use Rattle.rules.specs.Lot.{Lot}
 use Rattle.rules.specs.Table.{Found, entries}
 use Rattle.rules.specs.Percent.{Rule, totals, upper-side, lower-side}
+use Rattle.rules.specs.Halving.{upper-tried, lower-tried}
 use Rattle.rules.specs.Refusals.{count-case, any-out, none, crossed}
 use Rattle.rules.specs.Meets.{readings-meet, evaluation-meets}
 use Rattle.rules.specs.Entries.{mean-says, deviation-says, percentages-of, percentages, evaluated}
@@ -34,6 +35,19 @@ crossed-stays amount Absent lower = refl
 crossed-stays amount (At u) Absent = refl
 crossed-stays amount (At u) (At l) = ltZ-shift (u .0) (l .0) amount
 
+-- ---- the rows tried
+
+module _ (amount : ℤ) (xs : List ℤ) where
+  upper-tried-stays : (upper : Limit) → upper-tried (totals (length xs) (moved-readings amount xs)) (moved-limit amount upper) ≡ upper-tried (totals (length xs) xs) upper
+  unfolding upper-tried
+  upper-tried-stays Absent = refl
+  upper-tried-stays (At u) = rw (spread-stays amount xs, upper-distance-stays amount xs (u .0))
+
+  lower-tried-stays : (lower : Limit) → lower-tried (totals (length xs) (moved-readings amount xs)) (moved-limit amount lower) ≡ lower-tried (totals (length xs) xs) lower
+  unfolding lower-tried
+  lower-tried-stays Absent = refl
+  lower-tried-stays (At l) = rw (spread-stays amount xs, lower-distance-stays amount xs (l .0))
+
 -- ---- the percentages
 
 module _ (rule : Rule) (column : List ℕ) (amount : ℤ) where
@@ -49,7 +63,14 @@ module _ (rule : Rule) (column : List ℕ) (amount : ℤ) where
 
   percentages-stay : (lot : Lot) → length (lot .readings) ≡ lot .n → percentages rule column (moved amount lot) ≡ percentages rule column lot
   unfolding percentages-of
-  percentages-stay lot e = rw (← e, upper-side-stays (lot .readings) (lot .upper), lower-side-stays (lot .readings) (lot .lower))
+  percentages-stay lot e =
+      rw (
+        ← e,
+        upper-side-stays (lot .readings) (lot .upper),
+        lower-side-stays (lot .readings) (lot .lower),
+        upper-tried-stays amount (lot .readings) (lot .upper),
+        lower-tried-stays amount (lot .readings) (lot .lower),
+      )
 
 -- ---- the laws
 

@@ -13,7 +13,7 @@ use Rattle.rules.specs.Units.{hundredths}
 use Rattle.rules.specs.Table.{entry, entries}
 use Rattle.laws.specs.Ratio.{Ratio}
 use Rattle.laws.specs.Root.{Root, BelowZero}
-use Rattle.laws.specs.AsPublished.{LookedUp, SideAsPublished, UpperAsPublished, LowerAsPublished, AsPublished, ByTable106-1}
+use Rattle.laws.specs.AsPublished.{LookedUp, SideAsPublished, UpperAsPublished, LowerAsPublished, AsPublished, ByTable106-1, SamePercentages}
 use Rattle.laws.proofs.Spread.{all-equal-or-not}
 use Rattle.laws.proofs.NearestRow.{nearest-determined}
 
@@ -38,15 +38,15 @@ module _ (column : List ℕ) (xs : List ℤ) (s r : ℤ) where
   lower-once Absent h k = h ∙ sym k
   lower-once (At l) h k = side-once h k
 
-pub published-determined : (column : List ℕ) (upper lower : Limit) (xs : List ℤ) (p q : Percentages) → AsPublished column upper lower xs p → AsPublished column upper lower xs q → p ≡ q
+pub published-determined : (column : List ℕ) (upper lower : Limit) (xs : List ℤ) (p q : Percentages) → AsPublished column upper lower xs p → AsPublished column upper lower xs q → SamePercentages p q
 published-determined column upper lower xs p q h k =
     let u = upper-once column xs (p .upper .0) (q .upper .0) upper (h .upper-side) (k .upper-side) in
     let l = lower-once column xs (p .lower .0) (q .lower .0) lower (h .lower-side) (k .lower-side) in
     let w : p .pwl .0 ≡ q .pwl .0 = h .pwl ∙ (λ i. (u i +ℤ l i) -ℤ pos 10000) ∙ sym (k .pwl) in
-    λ i. record { upper = hundredths (u i); lower = hundredths (l i); pwl = hundredths (w i) }
+    (ap hundredths u, ap hundredths l, ap hundredths w)
 
 -- Nor are any by Table 106-1, which has one column for a count.
-pub by-table-determined : (upper lower : Limit) (xs : List ℤ) (p q : Percentages) → ByTable106-1 upper lower xs p → ByTable106-1 upper lower xs q → p ≡ q
+pub by-table-determined : (upper lower : Limit) (xs : List ℤ) (p q : Percentages) → ByTable106-1 upper lower xs p → ByTable106-1 upper lower xs q → SamePercentages p q
 by-table-determined upper lower xs p q h k =
     let same : h .column ≡ k .column = ap entries (sym (h .found) ∙ k .found) in
     published-determined (k .column) upper lower xs p q (rw same at (h .published)) (k .published)

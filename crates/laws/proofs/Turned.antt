@@ -14,6 +14,7 @@ use Rattle.rules.specs.Said.{Said, refused, answers, Case, ruled, checked}
 use Rattle.rules.specs.Lot.{Lot}
 use Rattle.rules.specs.Table.{Found, entries}
 use Rattle.rules.specs.Percent.{Rule, totals, side, upper-side, lower-side}
+use Rattle.rules.specs.Halving.{rows-tried, upper-tried, lower-tried}
 use Rattle.rules.specs.Refusals.{out-of-range, any-out, none, crossed}
 use Rattle.rules.specs.Meets.{evaluation-meets}
 use Rattle.rules.specs.Entries.{percentages-of, percentages, evaluated}
@@ -73,6 +74,17 @@ module _ (rule : Rule) (column : List ℕ) (n : ℕ) (xs : List ℤ) where
   lower-side-turned Absent = refl
   lower-side-turned (At u) = ap₂ (side rule column n) (spread-turned n xs) (lower-distance-turned n xs (u .0))
 
+module _ (n : ℕ) (xs : List ℤ) where
+  upper-tried-turned : (lower : Limit) → upper-tried (totals n (map negℤ xs)) (turned-limit lower) ≡ lower-tried (totals n xs) lower
+  unfolding upper-tried lower-tried
+  upper-tried-turned Absent = refl
+  upper-tried-turned (At l) = ap₂ (rows-tried n) (spread-turned n xs) (upper-distance-turned n xs (l .0))
+
+  lower-tried-turned : (upper : Limit) → lower-tried (totals n (map negℤ xs)) (turned-limit upper) ≡ upper-tried (totals n xs) upper
+  unfolding upper-tried lower-tried
+  lower-tried-turned Absent = refl
+  lower-tried-turned (At u) = ap₂ (rows-tried n) (spread-turned n xs) (lower-distance-turned n xs (u .0))
+
 percentages-turned : (rule : Rule) (column : List ℕ) (lot : Lot) → percentages rule column (turned lot) ≡ swapped (percentages rule column lot)
 unfolding percentages-of
 percentages-turned rule column lot =
@@ -81,7 +93,9 @@ percentages-turned rule column lot =
     let l = lower-side-turned rule column (lot .n) (lot .readings) (lot .upper) in
     let sum = ap₂ _+ℤ_ u l ∙ +ℤ-comm (p .lower .0) (p .upper .0) in
     let pwl = no-clamp rule column (turned lot) ∙ ap (λ (z : ℤ). z -ℤ pos 10000) sum ∙ sym (no-clamp rule column lot) in
-    λ i. record { upper = hundredths (u i); lower = hundredths (l i); pwl = hundredths (pwl i) }
+    let above = upper-tried-turned (lot .n) (lot .readings) (lot .lower) in
+    let below = lower-tried-turned (lot .n) (lot .readings) (lot .upper) in
+    λ i. record { upper = hundredths (u i); lower = hundredths (l i); pwl = hundredths (pwl i); tried = record { upper = above i; lower = below i } }
 
 -- ---- the law
 

@@ -53,6 +53,10 @@ pub record ByTable106-1 (upper lower : Limit) (xs : List ℤ) (p : Percentages) 
   pub found : table-106-1 (length xs) ≡ a-column column
   pub published : AsPublished column upper lower xs p
 
+-- Two answers with the same percentages. How many rows were tried for them these papers do not say; document 02 does (rules/specs/Halving.antt).
+abbrev pub SamePercentages : Percentages → Percentages → Type 0
+SamePercentages p q = (p .upper ≡ q .upper) × (p .lower ≡ q .lower) × (p .pwl ≡ q .pwl)
+
 -- The notebook's row: each double is one division of a number that is as published.
 pub record RowAsPublished (upper lower : Limit) (xs : List ℤ) (row : Row) : Type 0 where
   pub total : ℤ

@@ -17,9 +17,15 @@ HasAnswer {A} said = (a : A) × (said ≡ answers a)
 abbrev pub ZeroWhenAnswered : {A : Type 0} → HostRefusal → Said A → Type 0
 ZeroWhenAnswered part said = (part .number ≡ 0) ↔ HasAnswer said
 
--- C's plain numbers as percentages in hundredths
+-- C's plain numbers as percentages in hundredths, and the rows tried
 abbrev pub given-percentages : HostPercentages → Percentages
-given-percentages r = record { upper = hundredths (r .upper); lower = hundredths (r .lower); pwl = hundredths (r .pwl) }
+given-percentages r =
+    record {
+      upper = hundredths (r .upper);
+      lower = hundredths (r .lower);
+      pwl = hundredths (r .pwl);
+      tried = record { upper = r .tried .upper; lower = r .tried .lower };
+    }
 
 -- C's row without its refusal: the three doubles
 abbrev pub given-row-of : HostRow → Row

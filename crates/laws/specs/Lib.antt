@@ -16,6 +16,7 @@ pub mod Root
 pub mod Published
 pub mod PublishedLimits
 pub mod AllEqual
+pub mod Tried
 pub mod PublishedIndex
 pub mod NearestRow
 pub mod AsPublished

@@ -35,9 +35,15 @@ turned-held held =
       readings = map (λ (x : Thousandths). thousandths (negℤ (x .0))) (held .readings);
     }
 
--- the sides swapped, the PWL the same
+-- the sides swapped, with the rows tried for them, and the PWL the same
 abbrev pub swapped : Percentages → Percentages
-swapped p = record { upper = p .lower; lower = p .upper; pwl = p .pwl }
+swapped p =
+    record {
+      upper = p .lower;
+      lower = p .upper;
+      pwl = p .pwl;
+      tried = record { upper = p .tried .lower; lower = p .tried .upper };
+    }
 
 -- A refusal stays the same refusal.
 abbrev pub said-swapped : Said Percentages → Said Percentages

@@ -12,6 +12,7 @@ use rules::Percentages;
 use rules::Refusal;
 use rules::Totals;
 use rules::TotalsAnswer;
+use rules::Tried;
 use side::lower_side;
 use side::upper_side;
 ghost use mathlib.Core.Path.{_≡_};
@@ -35,7 +36,7 @@ fn within(upper: Hundredths, lower: Hundredths) -> Hundredths
     Hundredths(upper.0 + lower.0 - HUNDRED_PERCENT)
 }
 
-// Both sides and PWL, by a column.
+// Both sides and PWL, by a column, and the rows tried for each side.
 fn by_column(column: &[u8], a: Totals, upper: Limit, lower: Limit) -> Percentages
     requires { ⌜ ColumnIn (now column) × Bounded a × (out-of-range upper ≡ false) × (out-of-range lower ≡ false) ⌝ }
     ensures { λ r. ⌜ r ≡ percentages-of nearest (column-in (now (column .entry))) a upper lower ⌝ }
@@ -43,10 +44,16 @@ fn by_column(column: &[u8], a: Totals, upper: Limit, lower: Limit) -> Percentage
     let v = spread(a);
     let u = upper_side(column, a, v, upper);
     let l = lower_side(column, a, v, lower);
+    let above = u.percentage;
+    let below = l.percentage;
     Percentages {
-        upper: u,
-        lower: l,
-        pwl: within(u, l),
+        upper: above,
+        lower: below,
+        pwl: within(above, below),
+        tried: Tried {
+            upper: u.tried,
+            lower: l.tried,
+        },
     }
 }
 

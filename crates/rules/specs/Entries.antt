@@ -18,6 +18,7 @@ use Rattle.rules.specs.Said.{Said, refused, answers, ruled}
 use Rattle.rules.specs.Lot.{Lot, most, in-places}
 use Rattle.rules.specs.Table.{Found, table-106-1, entries}
 use Rattle.rules.specs.Percent.{Rule, nearest, totals, sum, spread, upper-side, lower-side, within}
+use Rattle.rules.specs.Halving.{upper-tried, lower-tried}
 use Rattle.rules.specs.Deviation.{deviation}
 use Rattle.rules.specs.Pay.{payment}
 use Rattle.rules.specs.Mixture.{mixture-limits}
@@ -46,12 +47,17 @@ abbrev pub column-for : Lot → Found
 column-for lot = table-106-1 (lot .n)
 
 module _ (rule : Rule) (column : List ℕ) where
-  -- both sides and PWL, of n, T and Z and two limits
+  -- both sides and PWL, of n, T and Z and two limits, and how many rows the handheld tries for each side
   unfoldable pub percentages-of : Totals → Limit → Limit → Percentages
   percentages-of a upper lower =
       let u : ℤ = upper-side rule column a upper in
       let l : ℤ = lower-side rule column a lower in
-      record { upper = hundredths u; lower = hundredths l; pwl = hundredths (within u l) }
+      record {
+        upper = hundredths u;
+        lower = hundredths l;
+        pwl = hundredths (within u l);
+        tried = record { upper = upper-tried a upper; lower = lower-tried a lower };
+      }
 
   abbrev pub percentages : Lot → Percentages
   percentages lot = percentages-of (totals (lot .n) (lot .readings)) (lot .upper) (lot .lower)

@@ -22,6 +22,7 @@ use Rattle.rules.specs.declared.host.HostLimit.{HostLimit}
 use Rattle.rules.specs.declared.host.HostLot.{HostLot}
 use Rattle.rules.specs.declared.host.HostMean.{HostMean}
 use Rattle.rules.specs.declared.host.HostDeviation.{HostDeviation}
+use Rattle.rules.specs.declared.host.HostTried.{HostTried}
 use Rattle.rules.specs.declared.host.HostPercentages.{HostPercentages}
 use Rattle.rules.specs.declared.host.HostPayment.{HostPayment}
 use Rattle.rules.specs.declared.host.HostPair.{HostPair}
@@ -58,8 +59,16 @@ host-deviation (refused r) = record { refusal = refusal-part r; deviation = pos 
 host-deviation (answers s) = record { refusal = no-refusal; deviation = s .0 }
 
 abbrev pub host-percentages : Said Percentages → HostPercentages
-host-percentages (refused r) = record { refusal = refusal-part r; upper = pos 0; lower = pos 0; pwl = pos 0 }
-host-percentages (answers p) = record { refusal = no-refusal; upper = p .upper .0; lower = p .lower .0; pwl = p .pwl .0 }
+host-percentages (refused r) =
+    record { refusal = refusal-part r; upper = pos 0; lower = pos 0; pwl = pos 0; tried = record { upper = 0; lower = 0 } }
+host-percentages (answers p) =
+    record {
+      refusal = no-refusal;
+      upper = p .upper .0;
+      lower = p .lower .0;
+      pwl = p .pwl .0;
+      tried = record { upper = p .tried .upper; lower = p .tried .lower };
+    }
 
 -- a verdict's number: 0 accepted, 1 rejected
 abbrev pub verdict-number : Verdict → ℕ

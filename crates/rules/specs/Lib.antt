@@ -6,6 +6,7 @@ pub mod Job
 pub mod Record
 pub mod Table
 pub mod Percent
+pub mod Halving
 pub mod Deviation
 pub mod Pay
 pub mod Mixture

@@ -51,11 +51,18 @@ pub struct HostDeviation {
 }
 
 #[repr(C)]
+pub struct HostTried {
+    pub upper: u32,
+    pub lower: u32,
+}
+
+#[repr(C)]
 pub struct HostPercentages {
     pub refusal: HostRefusal,
     pub upper: i64,
     pub lower: i64,
     pub pwl: i64,
+    pub tried: HostTried,
 }
 
 #[repr(C)]

@@ -121,11 +121,18 @@ pub enum DeviationAnswer {
     Refused(Refusal),
 }
 
-// The percentage of each side, and percent within limits.
+// How many rows of the table were tried for each side.
+pub struct Tried {
+    pub upper: u32,
+    pub lower: u32,
+}
+
+// The percentage of each side, percent within limits, and the rows tried.
 pub struct Percentages {
     pub upper: Hundredths,
     pub lower: Hundredths,
     pub pwl: Hundredths,
+    pub tried: Tried,
 }
 
 pub enum Evaluation {

@@ -17,15 +17,21 @@ lower-side-requires : tie.Need-lower-side-requires
 lower-side-requires c κs = search needs
 
 within-requires : tie.Need-within-requires
-within-requires c κs = (c .before .upper-side .ensures .1, c .lower-side .ensures .1)
+within-requires c κs = (c .before .before .before .upper-side .ensures .1, c .before .before .lower-side .ensures .1)
 
 returns : tie.Need-returns
 unfolding percentages-of
 returns c =
-    let u = c .before .before .upper-side .ensures .0 in
-    let l = c .before .lower-side .ensures .0 in
-    let w = c .within .ensures ∙ ap₂ within u l in
-    λ i. record { upper = hundredths (u i); lower = hundredths (l i); pwl = hundredths (w i) }
+    let u = c .before .before .before .before .upper-side .ensures in
+    let l = c .before .before .before .lower-side .ensures in
+    let w = c .within .ensures ∙ ap₂ within (u .0) (l .0) in
+    λ i.
+    record {
+      upper = hundredths (u .0 i);
+      lower = hundredths (l .0 i);
+      pwl = hundredths (w i);
+      tried = record { upper = u .2 i; lower = l .2 i };
+    }
 
 pub by-column-spec : {M : Type 1} → statement M
 by-column-spec =

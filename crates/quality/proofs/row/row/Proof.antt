@@ -1,8 +1,9 @@
--- Row `low` is admitted and the one above `high` is not, so where they meet is the largest that is admitted.
-use mathlib.Core.Path.{_≡_, sym, ap, _∙_, subst}
-use mathlib.Core.Bool.{true, false}
+-- The loop is the handheld's halving: what is still to be tried ends as the whole does. Where that ends is a law.
+use mathlib.Core.Path.{_≡_, refl, sym, ap, _∙_}
+use mathlib.Core.Bool.{Bool, true, false}
 use Prim.Native.Nat.{ℕ, suc, _+_, _-_, _/_, _≤_, _<_, zero-le}
 use native.Mathlib.Omega.{arith}
+use borrow.Author.Needs.{needs}
 use lib.IntN.{ℤ, pos}
 use mir.Syntax.{w64}
 use mir.Val.{toZ, ofZ}
@@ -10,28 +11,62 @@ use mir.Facts.{toZ-ofZ}
 use Rattle.integers.proofs.Order.{pos-mono}
 use Rattle.rules.specs.Table.{last-row}
 use Rattle.rules.specs.Percent.{admits, nearest}
-use Rattle.laws.proofs.Row.{first-admitted, row-is}
+use Rattle.rules.specs.Halving.{Halving, middle, raised, lowered, halved, handheld}
+use Rattle.laws.proofs.Halving.{goes-up, goes-down, stays}
+use Rattle.laws.proofs.RowsTried.{handheld-finds-the-row}
 use Rattle.quality.proofs.row.row.Statement.{statement}
 use Rattle.quality.proofs.row.row.Tie as tie
 
+-- The halving goes on from low and high; as many tries as rows may be left are 53 less those that were made.
+abbrev GoesOn : ℕ → ℕ → ℤ → Halving → Type 0
+GoesOn n v d h =
+    (h .low ≤ h .high) ×
+    (h .high ≤ last-row) ×
+    (h .high + h .tried ≤ last-row + h .low) ×
+    (halved (admits n (pos v) d) (last-row - h .tried) h ≡ handheld n (pos v) d)
+
 abbrev Inv-loop : tie.InvT-loop
-Inv-loop n v d low₀ high₀ low high =
-    (low ≤ high) ×
-    (high ≤ last-row) ×
-    (admits n (pos v) (toZ w64 d) low ≡ true) ×
-    (high < last-row → admits n (pos v) (toZ w64 d) (suc high) ≡ false)
+Inv-loop n v d low₀ high₀ tried₀ low high tried = GoesOn n v (toZ w64 d) (record { low = low; high = high; tried = tried })
 
 abbrev μ-loop : tie.MeasureT-loop
-μ-loop n v d low₀ high₀ low high = high - low
+μ-loop n v d low₀ high₀ tried₀ low high tried = high - low
+
+module _ (n v : ℕ) (d : ℤ) (h : Halving) (apart : h .low < h .high) (on : GoesOn n v d h) where
+  left : last-row - h .tried ≡ suc (last-row - (h .tried + 1))
+  left = omega arith
+
+  admitted : admits n (pos v) d (middle h) ≡ true → GoesOn n v d (raised h)
+  admitted e = (
+    omega arith,
+    omega arith,
+    omega arith,
+    sym (goes-up (admits n (pos v) d) (last-row - (h .tried + 1)) h apart e) ∙ ap (λ (tries : ℕ). halved (admits n (pos v) d) tries h) (sym left) ∙ on .3,
+  )
+
+  not-admitted : admits n (pos v) d (middle h) ≡ false → GoesOn n v d (lowered h)
+  not-admitted e = (
+    omega arith,
+    omega arith,
+    omega arith,
+    sym (goes-down (admits n (pos v) d) (last-row - (h .tried + 1)) h apart e) ∙ ap (λ (tries : ℕ). halved (admits n (pos v) d) tries h) (sym left) ∙ on .3,
+  )
+
+-- the halving as far as the loop has gone
+abbrev halving : tie.In-loop Inv-loop μ-loop → Halving
+halving c = record { low = c .before .loop .low; high = c .before .loop .high; tried = c .before .loop .tried }
 
 loop-holds : tie.Need-loop-holds Inv-loop μ-loop
-loop-holds c = (omega arith, omega arith, first-admitted (c .args .n) (pos (c .args .v)) _, λ h. absurd (omega arith))
+unfolding handheld
+loop-holds c = (omega arith, omega arith, omega arith, refl)
 
 add-middle : tie.Need-add-middle Inv-loop μ-loop
 add-middle c = omega arith
 
 add-middle-2 : tie.Need-add-middle-2 Inv-loop μ-loop
 add-middle-2 c = omega arith
+
+add-tried : tie.Need-add-tried Inv-loop μ-loop
+add-tried c = omega arith
 
 admits-requires : tie.Need-admits-requires Inv-loop μ-loop
 admits-requires c κs =
@@ -42,9 +77,7 @@ loop-less : tie.Need-loop-less Inv-loop μ-loop
 loop-less c = omega arith
 
 loop-again : tie.Need-loop-again Inv-loop μ-loop
-loop-again c =
-    let inv = c .before .before .before .loop .inv in
-    (omega arith, inv .1, sym (c .before .admits .ensures) ∙ c .if1 .taken, inv .3)
+loop-again c = admitted _ _ _ (halving (c .before .before)) (omega arith) (c .before .before .before .loop .inv) (sym (c .before .admits .ensures) ∙ c .if1 .taken)
 
 sub-high : tie.Need-sub-high Inv-loop μ-loop
 sub-high c = omega arith
@@ -53,25 +86,17 @@ loop-less-2 : tie.Need-loop-less-2 Inv-loop μ-loop
 loop-less-2 c = omega arith
 
 loop-again-2 : tie.Need-loop-again-2 Inv-loop μ-loop
-loop-again-2 c =
-    let args = c .before .before .before .before .args in
-    let inv = c .before .before .before .loop .inv in
-    let middle : ℕ = (c .before .before .before .loop .low + c .before .before .before .loop .high + 1) / 2 in
-    let next : middle ≡ suc (middle - 1) = omega arith in
-    (omega arith, omega arith, inv .2, λ h. subst (λ (k : ℕ). admits (args .n) (pos (args .v)) (toZ w64 (ofZ w64 (args .d))) k ≡ false) next (sym (c .before .admits .ensures) ∙ c .if1 .left))
+loop-again-2 c = not-admitted _ _ _ (halving (c .before .before)) (omega arith) (c .before .before .before .loop .inv) (sym (c .before .admits .ensures) ∙ c .if1 .left)
 
 returns : tie.Need-returns Inv-loop μ-loop
 returns c =
     let args = c .before .before .args in
-    let inv = c .before .loop .inv in
+    let f = c .before .before .fits .d in
     let d : ℤ = toZ w64 (ofZ w64 (args .d)) in
-    let meet : c .before .loop .high ≡ c .before .loop .low = omega arith in (
-      sym
-          (row-is (args .n) (pos (args .v)) d (pos-mono zero-le) (c .before .loop .low) (omega arith) (inv .2)
-          (λ h. subst (λ (k : ℕ). admits (args .n) (pos (args .v)) d (suc k) ≡ false) meet (inv .3 (omega arith))))
-          ∙ ap (nearest (args .n) (pos (args .v))) (toZ-ofZ (c .before .before .fits .d)),
-      omega arith,
-    )
+    let h : Halving = record { low = c .before .loop .low; high = c .before .loop .high; tried = c .before .loop .tried } in
+    let over : h ≡ handheld (args .n) (pos (args .v)) d = sym (stays (admits (args .n) (pos (args .v)) d) (last-row - h .tried) h (omega arith)) ∙ c .before .loop .inv .3 in
+    let row : h .low ≡ nearest (args .n) (pos (args .v)) d = ap (λ (e : Halving). e .low) over ∙ handheld-finds-the-row (args .n) (pos (args .v)) d (pos-mono zero-le) in
+    (simp toZ-ofZ at row, omega arith, simp toZ-ofZ at (ap (λ (e : Halving). e .tried) over))
 
 pub row-spec : {M : Type 1} → statement M
 row-spec =
@@ -82,6 +107,7 @@ row-spec =
     loop-holds
     add-middle
     add-middle-2
+    add-tried
     admits-requires
     loop-less
     loop-again

@@ -19,16 +19,19 @@ returns : tie.Need-returns
 returns c =
     let args = c .before .before .before .args in
     let f = c .before .before .before .fits .d in
-    ((simp toZ-ofZ at (c .before .reached .ensures)) .0 ∙ sym (side-inside _ (column-in (args .column .now)) (args .n) (pos (args .v)) (args .d) (simp toZ-ofZ at (c .if1 .taken))), c .before .reached .ensures .1)
+    let reached = simp toZ-ofZ at (c .before .reached .ensures) in
+    (reached .0 ∙ sym (side-inside _ (column-in (args .column .now)) (args .n) (pos (args .v)) (args .d) (simp toZ-ofZ at (c .if1 .taken))), c .before .reached .ensures .1, reached .2)
 
 returns-2 : tie.Need-returns-2
 returns-2 c =
     let args = c .before .before .before .before .args in
-    let f = c .before .before .before .before .fits .d in (
+    let f = c .before .before .before .before .fits .d in
+    let reached = simp toZ-ofZ at (c .before .before .reached .ensures) in (
       c .rest .ensures .0
-          ∙ ap (λ (e : ℤ). hundred-percent -ℤ e) ((simp toZ-ofZ at (c .before .before .reached .ensures)) .0)
+          ∙ ap (λ (e : ℤ). hundred-percent -ℤ e) (reached .0)
           ∙ sym (side-outside _ (column-in (args .column .now)) (args .n) (pos (args .v)) (args .d) (simp toZ-ofZ at (c .before .if1 .left))),
       c .rest .ensures .1,
+      reached .2,
     )
 
 pub side-spec : {M : Type 1} → statement M

@@ -7,6 +7,7 @@ use mir.Val.{SFits}
 use mir.Facts.{toZ-ofZ}
 use Rattle.rules.specs.Table.{column-in}
 use Rattle.rules.specs.Percent.{side}
+use Rattle.rules.specs.Halving.{rows-tried}
 use Rattle.quality.proofs.side.side_between.Statement.{statement}
 use Rattle.quality.proofs.side.side_between.Tie as tie
 
@@ -21,10 +22,12 @@ returns c =
     let start = c .before .before .before in
     let x = start .fits .x in
     let y = start .fits .y in
-    let d : SFits w64 (c .before .difference .result) = record { sfits = c .before .difference .ok } in (
-      (simp toZ-ofZ at (c .side .ensures)) .0
-          ∙ ap (side _ (column-in (start .args .column .now)) (start .args .n) (pos (start .args .v))) ((simp toZ-ofZ at (c .before .difference .ensures)) .0),
+    let d : SFits w64 (c .before .difference .result) = record { sfits = c .before .difference .ok } in
+    let at-distance = simp toZ-ofZ at (c .side .ensures) in
+    let distance = (simp toZ-ofZ at (c .before .difference .ensures)) .0 in (
+      at-distance .0 ∙ ap (side _ (column-in (start .args .column .now)) (start .args .n) (pos (start .args .v))) distance,
       c .side .ensures .1,
+      at-distance .2 ∙ ap (rows-tried (start .args .n) (pos (start .args .v))) distance,
     )
 
 pub side-between-spec : {M : Type 1} → statement M

@@ -1,7 +1,8 @@
 """Runs the library beside the second program: python3 second/compare.py [--seed N] [--stop] COMMAND...
 
 COMMAND answers calls over the library, as hosts/answers.c does. It is fed every call of second/calls.py, and each
-answer is held against that of second/papers.py. Succeeds if none differs and there were enough calls of each kind.
+answer is held against that of second/papers.py. Succeeds if none differs, there were enough calls of each kind, and
+each row of the table was found on both sides of the mean by one number of tries.
 With --stop it ends at the first that differs.
 """
 import argparse
@@ -56,16 +57,14 @@ def compare(asked, answers, stop):
     return compared, differ, False
 
 
-def rows_missed():
-    """Reports which rows took how many tries; whether one was never looked up inside a limit or outside, or took other tries elsewhere."""
-    took = collections.defaultdict(set)
-    for row, inside, tried in papers.LOOKED_UP:
-        took[row, inside].add(tried)
-    alike = all(took[row, True] == took[row, False] and len(took[row, True]) == 1 for row in range(papers.LAST + 1))
-    for tries in sorted(set().union(*took.values())):
-        rows = [row for row in range(papers.LAST + 1) if took[row, True] == took[row, False] == {tries}]
-        print(f"rows found by {tries} tries, inside and outside: {len(rows)}, {' '.join(map(str, rows))}")
-    return not alike
+def every_row_was_found():
+    """Reports by how many tries each row was found; whether each was, inside a limit and outside, always by as many."""
+    found = {(row, inside) for row, inside, _ in papers.LOOKED_UP}
+    tries = {(row, tried) for row, _, tried in papers.LOOKED_UP}
+    for least in sorted({tried for _, tried in tries}):
+        rows = [row for row, tried in sorted(tries) if tried == least]
+        print(f"rows found by {least} tries, {len(rows)}: {' '.join(map(str, rows))}")
+    return len(found) == 2 * len(tries) == 2 * (papers.LAST + 1)
 
 
 def main():
@@ -97,6 +96,9 @@ def main():
         if compared[kind] < least:
             print(f"  too few: at least {least:,} are to be compared")
             failed = True
+    if not every_row_was_found():
+        print("  each row is to be found inside a limit and outside, by one number of tries")
+        failed = True
     return 1 if failed or differ.total() else 0
 
 

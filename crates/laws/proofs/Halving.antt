@@ -1,8 +1,7 @@
 -- What a halving ends with, whatever its test is: its ends meet, at the largest number that passes, after as many tries as it takes to halve the range.
 use mathlib.Core.Path.{_≡_, refl, sym, _∙_, subst}
 use mathlib.Core.Bool.{Bool, true, false}
-use Prim.Native.Nat.{ℕ, zero, suc, _+_, _-_, _*_, _/_, _^_, _≤_, _<_}
-use native.Mathlib.Nat.{le-refl}
+use Prim.Native.Nat.{ℕ, zero, suc, _+_, _^_, _≤_, _<_}
 use native.Mathlib.Omega.{arith}
 use borrow.Author.Tests.{lt-ltb, le-ltb, ltb-true, ltb-false}
 use lib.Dec.{ltb}
@@ -11,12 +10,8 @@ use Rattle.rules.specs.Percent.{largest}
 use Rattle.rules.specs.Halving.{Halving, middle, raised, lowered, halved}
 use Rattle.laws.proofs.Largest.{largest-is}
 
--- the ends are apart
-abbrev Apart : Halving → Type 0
-Apart h = h .low < h .high
-
 -- So many tries are enough for the ends to meet.
-abbrev Enough : ℕ → Halving → Type 0
+abbrev pub Enough : ℕ → Halving → Type 0
 Enough tries h = (h .low ≤ h .high) × (h .high ≤ h .low + tries)
 
 module _ (admitted : ℕ → Bool) where
@@ -56,9 +51,8 @@ module _ (admitted : ℕ → Bool) where
 
   -- ---- what it ends with
 
-  pub ends-meet : (tries : ℕ) (h : Halving) → h .low ≤ h .high → h .high ≤ h .low + tries → halved admitted tries h .low ≡ halved admitted tries h .high
-  ends-meet tries h order apart =
-      ends (λ (h e : Halving). e .low ≡ e .high) (record { met = λ h m. m; up = λ h e a t more. more; down = λ h e a t more. more }) tries h (order, apart)
+  pub ends-meet : (tries : ℕ) (h : Halving) → Enough tries h → halved admitted tries h .low ≡ halved admitted tries h .high
+  ends-meet = ends (λ (h e : Halving). e .low ≡ e .high) (record { met = λ h m. m; up = λ h e a t more. more; down = λ h e a t more. more })
 
   -- Let every number below one that passes pass too, let low pass, and let the number after high not pass, unless high is m. Then the ends meet at
   -- the largest number up to m that passes.
@@ -67,22 +61,22 @@ module _ (admitted : ℕ → Bool) where
 
   pub ends-at-largest :
       ((j k : ℕ) → j ≤ k → admitted k ≡ true → admitted j ≡ true) → (m tries : ℕ) (h : Halving) →
-      h .low ≤ h .high → h .high ≤ h .low + tries → Largest m h (halved admitted tries h)
-  ends-at-largest falling m tries h order apart =
+      Enough tries h → Largest m h (halved admitted tries h)
+  ends-at-largest falling m =
       ends (Largest m)
       (record {
         met = λ h e top here next. sym (largest-is admitted falling m (h .low) (omega arith) here (λ less. subst (λ (k : ℕ). admitted (suc k) ≡ false) (sym e) (next (omega arith))));
         up = λ h e a t more top here next. more top t next;
         down = λ h e a t more top here next. more (omega arith) here (λ _. subst (λ (k : ℕ). admitted k ≡ false) (omega arith) t);
-      }) tries h (order, apart)
+      })
 
   -- A range of no more than 2^d numbers takes d tries at the most,
   abbrev AtMost : Halving → Halving → Type 0
   AtMost h e = (d : ℕ) → h .high < h .low + 2 ^ d → e .tried ≤ h .tried + d
 
-  pub tries-at-most : (tries : ℕ) (h : Halving) → h .low ≤ h .high → h .high ≤ h .low + tries → AtMost h (halved admitted tries h)
-  tries-at-most tries h order apart =
-      ends AtMost (record { met = λ h e d small. omega arith; up = up; down = down }) tries h (order, apart)
+  pub tries-at-most : (tries : ℕ) (h : Halving) → Enough tries h → AtMost h (halved admitted tries h)
+  tries-at-most =
+      ends AtMost (record { met = λ h e d small. omega arith; up = up; down = down })
     where
       up : (h e : Halving) → h .low < h .high → admitted (middle h) ≡ true → AtMost (raised h) e → AtMost h e
       up h e a t more zero small = absurd (omega arith)
@@ -96,9 +90,9 @@ module _ (admitted : ℕ → Bool) where
   abbrev AtLeast : Halving → Halving → Type 0
   AtLeast h e = (d : ℕ) → h .low + 2 ^ d ≤ suc (h .high) → h .tried + d ≤ e .tried
 
-  pub tries-at-least : (tries : ℕ) (h : Halving) → h .low ≤ h .high → h .high ≤ h .low + tries → AtLeast h (halved admitted tries h)
-  tries-at-least tries h order apart =
-      ends AtLeast (record { met = met; up = up; down = down }) tries h (order, apart)
+  pub tries-at-least : (tries : ℕ) (h : Halving) → Enough tries h → AtLeast h (halved admitted tries h)
+  tries-at-least =
+      ends AtLeast (record { met = met; up = up; down = down })
     where
       met : (h : Halving) → h .low ≡ h .high → AtLeast h h
       met h e zero large = omega arith
@@ -115,8 +109,8 @@ module _ (admitted : ℕ → Bool) where
 -- Tests that say the same of every number up to m halve a range up to m alike.
 pub alike :
     (f g : ℕ → Bool) (m : ℕ) → ((k : ℕ) → k ≤ m → f k ≡ g k) → (tries : ℕ) (h : Halving) →
-    h .low ≤ h .high → h .high ≤ h .low + tries → h .high ≤ m → halved f tries h ≡ halved g tries h
-alike f g m same tries h order apart top = sym (ends f Alike (record { met = met; up = up; down = down }) tries h (order, apart) tries (order, apart) top)
+    Enough tries h → h .high ≤ m → halved f tries h ≡ halved g tries h
+alike f g m same tries h enough top = sym (ends f Alike (record { met = met; up = up; down = down }) tries h enough tries enough top)
   where
     Alike : Halving → Halving → Type 0
     Alike h e = (tries : ℕ) → Enough tries h → h .high ≤ m → halved g tries h ≡ e

@@ -1,51 +1,48 @@
 -- The handheld's lookup ends at the row of the definition, after 5 or 6 tries, and which of the two goes by the row alone.
-use mathlib.Core.Path.{_≡_, refl, sym, ap, _∙_}
+use mathlib.Core.Path.{_≡_, refl, ap, _∙_}
 use mathlib.Core.Bool.{Bool, true, false}
 use mathlib.Core.List.{List}
-use Prim.Native.Nat.{ℕ, zero, suc, _≤_, _<_, zero-le}
-use native.Mathlib.Nat.{le-refl}
+use Prim.Native.Nat.{ℕ, _≤_, zero-le}
 use native.Mathlib.Omega.{arith}
 use borrow.Author.Tests.{leb-true, leb-false}
 use lib.Dec.{T, leb, eqb, eqb→eq}
 use lib.IntN.{ℤ, pos}
 use lib.ListN.{getD, length}
-use lib.Signed.{_≤ℤ_, _<ℤ_, ltZ}
-use Rattle.integers.proofs.Order.{lt-ltZ, ltZ-true}
+use lib.Signed.{_≤ℤ_, ltZ}
+use Rattle.integers.proofs.Order.{lt-ltZ}
 use Rattle.rules.specs.declared.Totals.{Totals}
 use Rattle.rules.specs.declared.Limit.{Limit}
 use Rattle.rules.specs.declared.Limit.the-variants.{Absent, At}
 use Rattle.rules.specs.Table.{last-row}
 use Rattle.rules.specs.Percent.{admits, nearest, totals, spread}
-use Rattle.rules.specs.Halving.{Halving, halved, handheld, rows-tried, upper-tried, lower-tried}
-use Rattle.laws.specs.AllEqual.{AllEqual}
+use Rattle.rules.specs.Halving.{Halving, halved, all-rows, handheld, rows-tried, upper-tried, lower-tried}
 use Rattle.laws.specs.Tried.{TriedAt, TriedFor, tries-by-row}
 use Rattle.laws.proofs.Each.{each, each-at}
 use Rattle.laws.proofs.Largest.{largest-passes, none-above}
 use Rattle.laws.proofs.Row.{first-admitted, admits-below, row-at-most}
 use Rattle.laws.proofs.Spread.{spread-zero-exactly-when-equal, spread-above-exactly-when-unequal}
-use Rattle.laws.proofs.Halving.{ends-meet, ends-at-largest, tries-at-most, tries-at-least, alike}
+use Rattle.laws.proofs.Halving.{Enough, ends-meet, ends-at-largest, tries-at-most, tries-at-least, alike}
 
--- the range of all rows
-abbrev all-rows : Halving
-all-rows = record { low = 0; high = last-row; tried = 0 }
+enough : Enough last-row all-rows
+enough = (omega arith, omega arith)
 
 module _ (n : ℕ) (v d : ℤ) where
   pub handheld-ends-meet : handheld n v d .low ≡ handheld n v d .high
   unfolding handheld
-  handheld-ends-meet = ends-meet (admits n v d) last-row all-rows zero-le (le-refl last-row)
+  handheld-ends-meet = ends-meet (admits n v d) last-row all-rows enough
 
   -- For V of 0 or more its end is the row, the largest that is admitted.
   pub handheld-finds-the-row : pos 0 ≤ℤ v → handheld n v d .low ≡ nearest n v d
   unfolding handheld nearest
   handheld-finds-the-row h =
-      ends-at-largest (admits n v d) (admits-below n v d h) last-row last-row all-rows zero-le (le-refl last-row) (le-refl last-row) (first-admitted n v d) (λ less. absurd (omega arith))
+      ends-at-largest (admits n v d) (admits-below n v d h) last-row last-row all-rows enough (omega arith) (first-admitted n v d) (λ less. absurd (omega arith))
 
   -- There are 54 rows, not fewer than 2⁵ and not more than 2⁶.
   pub handheld-tries-five-or-six : (5 ≤ handheld n v d .tried) × (handheld n v d .tried ≤ 6)
   unfolding handheld
   handheld-tries-five-or-six = (
-    tries-at-least (admits n v d) last-row all-rows zero-le (le-refl last-row) 5 (omega arith),
-    tries-at-most (admits n v d) last-row all-rows zero-le (le-refl last-row) 6 (omega arith),
+    tries-at-least (admits n v d) last-row all-rows enough 5 (omega arith),
+    tries-at-most (admits n v d) last-row all-rows enough 6 (omega arith),
   )
 
 -- ---- by the row
@@ -71,7 +68,7 @@ listed = tt
 pub tries-go-by-the-row : (n : ℕ) (v d : ℤ) → pos 0 ≤ℤ v → handheld n v d .tried ≡ getD tries-by-row (nearest n v d) 0
 unfolding handheld
 tries-go-by-the-row n v d h =
-    ap (λ (e : Halving). e .tried) (alike (admits n v d) (λ (k : ℕ). leb k (nearest n v d)) last-row (admits-up-to-the-row n v d h) last-row all-rows zero-le (le-refl last-row) (le-refl last-row))
+    ap (λ (e : Halving). e .tried) (alike (admits n v d) (λ (k : ℕ). leb k (nearest n v d)) last-row (admits-up-to-the-row n v d h) last-row all-rows enough (omega arith))
     ∙ eqb→eq (tries-for (nearest n v d)) (getD tries-by-row (nearest n v d) 0) (each-at (λ (row : ℕ). eqb (tries-for row) (getD tries-by-row row 0)) 54 0 listed (nearest n v d) zero-le (omega (arith, row-at-most n v d)))
 
 -- ---- for a side

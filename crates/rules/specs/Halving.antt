@@ -36,9 +36,13 @@ halved admitted (suc tries) h =
     (halved admitted tries (cond (admitted (middle h)) (raised h) (lowered h)))
     h
 
--- The handheld's lookup, by the row rule, from the range 0 to 53 on: where the ends meet is its row.
+-- the range 0 to 53, of which no row has been tried
+abbrev pub all-rows : Halving
+all-rows = record { low = 0; high = last-row; tried = 0 }
+
+-- The handheld's lookup, by the row rule: where its ends meet is the row.
 unfoldable pub handheld : ℕ → ℤ → ℤ → Halving
-handheld n v d = halved (admits n v d) last-row (record { low = 0; high = last-row; tried = 0 })
+handheld n v d = halved (admits n v d) last-row all-rows
 
 -- The number of rows tried for a side: 0 where V = 0,
 unfoldable pub rows-tried : ℕ → ℤ → ℤ → ℕ

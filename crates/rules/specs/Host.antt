@@ -22,7 +22,6 @@ use Rattle.rules.specs.declared.host.HostLimit.{HostLimit}
 use Rattle.rules.specs.declared.host.HostLot.{HostLot}
 use Rattle.rules.specs.declared.host.HostMean.{HostMean}
 use Rattle.rules.specs.declared.host.HostDeviation.{HostDeviation}
-use Rattle.rules.specs.declared.host.HostTried.{HostTried}
 use Rattle.rules.specs.declared.host.HostPercentages.{HostPercentages}
 use Rattle.rules.specs.declared.host.HostPayment.{HostPayment}
 use Rattle.rules.specs.declared.host.HostPair.{HostPair}

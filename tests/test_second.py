@@ -24,6 +24,11 @@ class Second(unittest.TestCase):
         self.assertEqual(status, 0, said)
         counts = [int(number.replace(",", "")) for number in re.findall(r" ([\d,]+) compared, 0 differ", said)]
         self.assertGreaterEqual(sum(counts), 1_000_000)
+        # each row was found by as many tries as the law says
+        found = re.findall(r"rows found by (\d+) tries, \d+: (.*)", said)
+        tries = {int(row): int(tried) for tried, rows in found for row in rows.split()}
+        _, law = (ROOT / "crates/laws/specs/Tried.antt").read_text("utf-8").split("tries-by-row =\n")
+        self.assertEqual([tries[row] for row in range(54)], [int(tried) for tried in re.findall(r"\d+", law)])
 
     def test_a_wrong_constant_is_told(self):
         """In a copy of the library the entry for ten readings at index 1.20 is 88.75, where the table has 88.76."""

@@ -9,7 +9,7 @@ use mir.Val.{toZ, ofZ}
 use mir.Facts.{toZ-ofZ}
 use Rattle.integers.proofs.Order.{pos-mono}
 use Rattle.rules.specs.Table.{last-row}
-use Rattle.rules.specs.Percent.{admits, nearest}
+use Rattle.rules.specs.Percent.{admits}
 use Rattle.rules.specs.Halving.{Halving, middle, raised, lowered, halved, handheld}
 use Rattle.laws.proofs.Halving.{goes-up, goes-down, stays}
 use Rattle.laws.proofs.RowsTried.{handheld-finds-the-row}
@@ -87,15 +87,22 @@ loop-less-2 c = omega arith
 loop-again-2 : tie.Need-loop-again-2 Inv-loop μ-loop
 loop-again-2 c = not-admitted _ _ _ (halving (c .before .before)) (omega arith) (c .before .before .before .loop .inv) (sym (c .before .admits .ensures) ∙ c .if1 .left)
 
-returns : tie.Need-returns Inv-loop μ-loop
-returns c =
+-- Where the ends have met, it is over.
+abbrev end : tie.After-loop Inv-loop μ-loop → Halving
+end c = record { low = c .before .loop .low; high = c .before .loop .high; tried = c .before .loop .tried }
+
+over : (c : tie.After-loop Inv-loop μ-loop) → end c ≡ handheld (c .before .before .args .n) (pos (c .before .before .args .v)) (c .before .before .args .d)
+over c =
     let args = c .before .before .args in
     let f = c .before .before .fits .d in
     let d : ℤ = toZ w64 (ofZ w64 (args .d)) in
-    let h : Halving = record { low = c .before .loop .low; high = c .before .loop .high; tried = c .before .loop .tried } in
-    let over : h ≡ handheld (args .n) (pos (args .v)) d = sym (stays (admits (args .n) (pos (args .v)) d) (last-row - h .tried) h (omega arith)) ∙ c .before .loop .inv .3 in
-    let row : h .low ≡ nearest (args .n) (pos (args .v)) d = ap (λ (e : Halving). e .low) over ∙ handheld-finds-the-row (args .n) (pos (args .v)) d (pos-mono zero-le) in
-    (simp toZ-ofZ at row, omega arith, simp toZ-ofZ at (ap (λ (e : Halving). e .tried) over))
+    let met : end c .low ≡ end c .high = omega arith in
+    simp toZ-ofZ at (sym (stays (admits (args .n) (pos (args .v)) d) (last-row - end c .tried) (end c) met) ∙ c .before .loop .inv .3)
+
+returns : tie.Need-returns Inv-loop μ-loop
+returns c =
+    let args = c .before .before .args in
+    (ap (λ (h : Halving). h .low) (over c) ∙ handheld-finds-the-row (args .n) (pos (args .v)) (args .d) (pos-mono zero-le), omega arith, ap (λ (h : Halving). h .tried) (over c))
 
 pub row-spec : {M : Type 1} → statement M
 row-spec =

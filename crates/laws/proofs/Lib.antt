@@ -77,3 +77,4 @@ pub mod PublishedAnswers
 pub mod RowAnswers
 pub mod TriedAnswers
 pub mod Desk
+pub mod DeskTried

@@ -60,6 +60,7 @@ admits-up-to-the-row n v d h k top = by (leb k (nearest n v d)) refl
 abbrev tries-for : ℕ → ℕ
 tries-for row = halved (λ (k : ℕ). leb k row) last-row all-rows .tried
 
+-- The list has them, row by row.
 listed : T (each (λ (row : ℕ). eqb (tries-for row) (getD tries-by-row row 0)) 54 0)
 unfolding halved
 listed = tt

@@ -16,7 +16,6 @@ pub mod Root
 pub mod Published
 pub mod PublishedLimits
 pub mod AllEqual
-pub mod Tried
 pub mod PublishedIndex
 pub mod NearestRow
 pub mod AsPublished
@@ -27,5 +26,6 @@ pub mod Taken
 pub mod Bytes
 pub mod Head
 pub mod Desk
+pub mod Tried
 pub mod Totalled
 pub mod Job

@@ -16,7 +16,7 @@ use Rattle.laws.proofs.RowsTried.{handheld-finds-the-row}
 use Rattle.quality.proofs.row.row.Statement.{statement}
 use Rattle.quality.proofs.row.row.Tie as tie
 
--- The halving goes on from low and high; as many tries as rows may be left are 53 less those that were made.
+-- The halving goes on from here, with 53 tries less those that were made, and ends as the whole does.
 abbrev GoesOn : ℕ → ℕ → ℤ → Halving → Type 0
 GoesOn n v d h =
     (h .low ≤ h .high) ×

@@ -83,7 +83,7 @@ static unsigned row(int64_t nv, int64_t reach, uint32_t *tried)
     return low;
 }
 
-/* The rows tried are left as they are where none is. */
+/* Where no row is tried, `tried` is left as it is. */
 static int64_t side(const struct totals *a, int64_t d, uint32_t *tried)
 {
     int64_t entry = WHOLE;

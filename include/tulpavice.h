@@ -149,7 +149,7 @@ struct tulpavice_mean tulpavice_mean(const int32_t *readings, size_t count);
 /* To the nearest thousandth; shown to people, and no percentage depends on it. Refusals 4 and 5. */
 struct tulpavice_deviation tulpavice_deviation(const int32_t *readings, size_t count);
 
-/* Both sides and PWL, of some readings and two limits. Refusals 4 to 7 and 10. */
+/* Both sides, PWL and the rows tried, of some readings and two limits. Refusals 4 to 7 and 10. */
 struct tulpavice_percentages tulpavice_evaluate(const int32_t *readings, size_t count, int32_t upper,
                                                 uint32_t upper_present, int32_t lower, uint32_t lower_present);
 

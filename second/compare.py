@@ -2,7 +2,7 @@
 
 COMMAND answers calls over the library, as hosts/answers.c does. It is fed every call of second/calls.py, and each
 answer is held against that of second/papers.py. Succeeds if none differs, there were enough calls of each kind, and
-each row of the table was found on both sides of the mean by one number of tries.
+each row of the table was found inside a limit and outside, by one number of tries.
 With --stop it ends at the first that differs.
 """
 import argparse
@@ -61,9 +61,9 @@ def every_row_was_found():
     """Reports by how many tries each row was found; whether each was, inside a limit and outside, always by as many."""
     found = {(row, inside) for row, inside, _ in papers.LOOKED_UP}
     tries = {(row, tried) for row, _, tried in papers.LOOKED_UP}
-    for least in sorted({tried for _, tried in tries}):
-        rows = [row for row, tried in sorted(tries) if tried == least]
-        print(f"rows found by {least} tries, {len(rows)}: {' '.join(map(str, rows))}")
+    for number in sorted({tried for _, tried in tries}):
+        rows = [row for row, tried in sorted(tries) if tried == number]
+        print(f"rows found by {number} tries, {len(rows)}: {' '.join(map(str, rows))}")
     return len(found) == 2 * len(tries) == 2 * (papers.LAST + 1)
 
 

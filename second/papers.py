@@ -1,9 +1,10 @@
 """The calculator a second time, as the papers write it: mean, deviation and quality index in wide decimals.
 
 The library works with whole numbers squared. Here the mean is a quotient, the deviation a root and the index the
-limit's distance from that mean over that deviation, pay is reckoned in percent, dollars and tons, and a job is dealt
-out into lots sublot by sublot. Run by itself it answers calls from standard input, a line each, as hosts/answers.c does
-over the library.
+limit's distance from that mean over that deviation; that index is rounded to its row, and what a handheld tries is
+counted by halving a list of the rows; pay is reckoned in percent, dollars and tons, and a job is dealt out into lots
+sublot by sublot. Run by itself it answers calls from standard input, a line each, as hosts/answers.c does over the
+library.
 
 Why 60 digits decide an exact tie. An index is looked up for at most ten readings. With n of them its square is a
 fraction whose denominator divides n * (n * (sum of squares) - (sum)^2), which is at most 2.5e14. Two fractions that
@@ -17,7 +18,6 @@ n * (n - 1), which is at most 272, and four times the square of what lies half w
 the squares themselves, if they differ, differ by at least 1/(4 * 272), and a deviation, which is below 1e6, is either
 exactly half way or more than 4e-10 off.
 """
-import collections
 import decimal
 import functools
 import pathlib
@@ -86,24 +86,25 @@ def halved(twentieths):
     return rows[0], tried
 
 
-# How often each row was looked up, inside the limit (True) or outside, and the tries that it took.
-LOOKED_UP = collections.Counter()
+# Each row that was looked up, whether inside the limit, and by how many tries.
+LOOKED_UP = set()
 
 
 def side(count, distance, spread):
     """The percentage on one side, whose limit lies this far outside the mean, and how many rows a handheld tries."""
     if spread == 0:
-        return 100 if distance >= 0 else 0, 0
+        return (100 if distance >= 0 else 0), 0
     index = distance / spread
     twentieths = (abs(index) * 20).quantize(SNAP)
     row = min(int(twentieths + HALF), LAST)
     end, tried = halved(twentieths)
     assert end == row, f"halving ends at row {end}, and the nearest is {row}"
-    LOOKED_UP[row, index >= 0, tried] += 1
+    LOOKED_UP.add((row, index >= 0, tried))
     entry = TABLE[count][row]
-    return entry if index >= 0 else 100 - entry, tried
+    return (entry if index >= 0 else 100 - entry), tried
 
 
+# what an absent limit has: the whole side, and no row tried
 NO_LIMIT = 100, 0
 
 

@@ -5,7 +5,7 @@ from texts import plain_rattle
 
 HEADER, LAYOUT = "include/tulpavice.h", "hosts/layout.c"
 PLAIN = {"u8": "uint8_t", "i32": "int32_t", "u32": "uint32_t", "i64": "int64_t", "usize": "size_t", "f64": "double"}
-# What C calls the places of a lot, and the numbers of a limit, of a pair of limits and of both sides' rows, which stand there side by side.
+# What C calls the places of a lot, and the numbers of a limit, of a pair of limits and of the rows tried for both sides, which stand there side by side.
 PLACES = {word: f"readings[{i}]" for i, word in enumerate((
     "first second third fourth fifth sixth seventh eighth ninth tenth eleventh twelfth thirteenth fourteenth fifteenth "
     "sixteenth seventeenth").split())}

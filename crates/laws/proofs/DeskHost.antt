@@ -110,6 +110,7 @@ pub deviation-is-given :
     (host-deviation (answers (thousandths (pos 825))) ≡ record { refusal = numbered 0; deviation = pos 825 })
 deviation-is-given = (refl, refl)
 
+-- The counts are made to differ, so that an exchange is seen.
 pub percentages-are-given :
     (host-percentages (refused Unlimited) ≡ record { refusal = numbered 6; upper = pos 0; lower = pos 0; pwl = pos 0; tried = record { upper = 0; lower = 0 } }) ×
     (host-percentages (answers (record { upper = hundredths (pos 9337); lower = hundredths (pos 9791); pwl = hundredths (pos 9128); tried = record { upper = 6; lower = 5 } })) ≡

@@ -25,10 +25,10 @@ module _ (admitted : ℕ → Bool) where
   unfolding halved
   goes-down tries h apart e = rw (lt-ltb (h .low) (h .high) apart, e)
 
-  pub stays : (tries : ℕ) (h : Halving) → h .low ≡ h .high → halved admitted tries h ≡ h
+  pub met-ends-stay : (tries : ℕ) (h : Halving) → h .low ≡ h .high → halved admitted tries h ≡ h
   unfolding halved
-  stays zero h met = refl
-  stays (suc tries) h met = rw (le-ltb (h .low) (h .high) (omega arith))
+  met-ends-stay zero h met = refl
+  met-ends-stay (suc tries) h met = rw (le-ltb (h .low) (h .high) (omega arith))
 
   -- ---- all steps
 
@@ -45,7 +45,7 @@ module _ (admitted : ℕ → Bool) where
   ends Ends s (suc tries) h enough = by (ltb (h .low) (h .high)) refl (admitted (middle h)) refl (ends Ends s tries)
     where
       by : (b : Bool) → ltb (h .low) (h .high) ≡ b → (t : Bool) → admitted (middle h) ≡ t → ((h : Halving) → Enough tries h → Ends h (halved admitted tries h)) → Ends h (halved admitted (suc tries) h)
-      by false e t e′ more = let m : h .low ≡ h .high = omega (arith, ltb-false (h .low) (h .high) e) in rw (stays (suc tries) h m) (s .met h m)
+      by false e t e′ more = let m : h .low ≡ h .high = omega (arith, ltb-false (h .low) (h .high) e) in rw (met-ends-stay (suc tries) h m) (s .met h m)
       by true e true e′ more = let a = ltb-true (h .low) (h .high) e in rw (goes-up tries h a e′) (s .up h _ a e′ (more (raised h) (omega arith, omega arith)))
       by true e false e′ more = let a = ltb-true (h .low) (h .high) e in rw (goes-down tries h a e′) (s .down h _ a e′ (more (lowered h) (omega arith, omega arith)))
 
@@ -107,16 +107,16 @@ module _ (admitted : ℕ → Bool) where
       down h e a t more (suc d) large = omega (arith, more d (omega arith))
 
 -- Tests that say the same of every number up to m halve a range up to m alike.
-pub alike :
+pub same-tests-halve-alike :
     (f g : ℕ → Bool) (m : ℕ) → ((k : ℕ) → k ≤ m → f k ≡ g k) → (tries : ℕ) (h : Halving) →
     Enough tries h → h .high ≤ m → halved f tries h ≡ halved g tries h
-alike f g m same tries h enough top = sym (ends f Alike (record { met = met; up = up; down = down }) tries h enough tries enough top)
+same-tests-halve-alike f g m same tries h enough top = sym (ends f Alike (record { met = met; up = up; down = down }) tries h enough tries enough top)
   where
     Alike : Halving → Halving → Type 0
     Alike h e = (tries : ℕ) → Enough tries h → h .high ≤ m → halved g tries h ≡ e
 
     met : (h : Halving) → h .low ≡ h .high → Alike h h
-    met h e tries enough top = stays g tries h e
+    met h e tries enough top = met-ends-stay g tries h e
 
     up : (h e : Halving) → h .low < h .high → f (middle h) ≡ true → Alike (raised h) e → Alike h e
     up h e a t more zero enough top = absurd (omega arith)

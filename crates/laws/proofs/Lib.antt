@@ -25,6 +25,7 @@ pub mod NearestRow
 pub mod SquaresOff
 pub mod PublishedIndex
 pub mod PublishedRow
+pub mod TriedByRule
 pub mod Nearest
 pub mod Side
 pub mod Distance

@@ -1,4 +1,4 @@
--- Documents 01 and 004 leave one answer only: no second percentages are as published for the same readings, limits and column.
+-- Documents 01 and 004 leave one set of percentages only: no others are as published for the same readings, limits and column.
 use mathlib.Core.Path.{_≡_, sym, ap, _∙_}
 use mathlib.Core.List.{List}
 use mathlib.Core.Logic.{⊎-elim}

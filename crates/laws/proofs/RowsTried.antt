@@ -1,27 +1,24 @@
 -- The handheld's lookup ends at the row of the definition, after 5 or 6 tries, and which of the two goes by the row alone.
 use mathlib.Core.Path.{_≡_, refl, ap, _∙_}
 use mathlib.Core.Bool.{Bool, true, false}
-use mathlib.Core.List.{List}
 use Prim.Native.Nat.{ℕ, _≤_, zero-le}
 use native.Mathlib.Omega.{arith}
 use borrow.Author.Tests.{leb-true, leb-false}
 use lib.Dec.{T, leb, eqb, eqb→eq}
 use lib.IntN.{ℤ, pos}
-use lib.ListN.{getD, length}
+use lib.ListN.{getD}
 use lib.Signed.{_≤ℤ_, ltZ}
-use Rattle.integers.proofs.Order.{lt-ltZ}
 use Rattle.rules.specs.declared.Totals.{Totals}
 use Rattle.rules.specs.declared.Limit.{Limit}
 use Rattle.rules.specs.declared.Limit.the-variants.{Absent, At}
 use Rattle.rules.specs.Table.{last-row}
-use Rattle.rules.specs.Percent.{admits, nearest, totals, spread}
+use Rattle.rules.specs.Percent.{admits, nearest}
 use Rattle.rules.specs.Halving.{Halving, halved, all-rows, handheld, rows-tried, upper-tried, lower-tried}
-use Rattle.laws.specs.Tried.{TriedAt, TriedFor, tries-by-row}
+use Rattle.laws.specs.Tried.{tries-by-row}
 use Rattle.laws.proofs.Each.{each, each-at}
 use Rattle.laws.proofs.Largest.{largest-passes, none-above}
 use Rattle.laws.proofs.Row.{first-admitted, admits-below, row-at-most}
-use Rattle.laws.proofs.Spread.{spread-zero-exactly-when-equal, spread-above-exactly-when-unequal}
-use Rattle.laws.proofs.Halving.{Enough, ends-meet, ends-at-largest, tries-at-most, tries-at-least, alike}
+use Rattle.laws.proofs.Halving.{Enough, ends-meet, ends-at-largest, tries-at-most, tries-at-least, same-tests-halve-alike}
 
 enough : Enough last-row all-rows
 enough = (omega arith, omega arith)
@@ -69,7 +66,7 @@ listed = tt
 pub tries-go-by-the-row : (n : ℕ) (v d : ℤ) → pos 0 ≤ℤ v → handheld n v d .tried ≡ getD tries-by-row (nearest n v d) 0
 unfolding handheld
 tries-go-by-the-row n v d h =
-    ap (λ (e : Halving). e .tried) (alike (admits n v d) (λ (k : ℕ). leb k (nearest n v d)) last-row (admits-up-to-the-row n v d h) last-row all-rows enough (omega arith))
+    ap (λ (e : Halving). e .tried) (same-tests-halve-alike (admits n v d) (λ (k : ℕ). leb k (nearest n v d)) last-row (admits-up-to-the-row n v d h) last-row all-rows enough (omega arith))
     ∙ eqb→eq (tries-for (nearest n v d)) (getD tries-by-row (nearest n v d) 0) (each-at (λ (row : ℕ). eqb (tries-for row) (getD tries-by-row row 0)) 54 0 listed (nearest n v d) zero-le (omega (arith, row-at-most n v d)))
 
 -- ---- for a side
@@ -83,7 +80,7 @@ module _ (n : ℕ) (v d : ℤ) where
   unfolding rows-tried
   none-without-spread e = rw e
 
-  tried-at-most-six : rows-tried n v d ≤ 6
+  pub tried-at-most-six : rows-tried n v d ≤ 6
   tried-at-most-six = by (ltZ (pos 0) v) refl
     where
       by : (b : Bool) → ltZ (pos 0) v ≡ b → rows-tried n v d ≤ 6
@@ -100,22 +97,3 @@ module _ (a : Totals) where
   unfolding lower-tried
   lower-tried-at-most-six Absent = zero-le
   lower-tried-at-most-six (At l) = tried-at-most-six (a .n) _ _
-
-module _ (xs : List ℤ) where
-  tried-at : (d : ℤ) → TriedAt xs (rows-tried (length xs) (spread (totals (length xs) xs)) d)
-  tried-at d =
-      record {
-        at-most-six = tried-at-most-six (length xs) _ d;
-        five-or-six = λ unequal. rw (tried-where-spread (length xs) _ d (lt-ltZ (spread-above-exactly-when-unequal xs .1 unequal))) (handheld-tries-five-or-six (length xs) _ d .0);
-        none-if-equal = λ equal. none-without-spread (length xs) _ d (ap (ltZ (pos 0)) (spread-zero-exactly-when-equal xs .1 equal));
-      }
-
-  pub upper-tried-for : (upper : Limit) → TriedFor upper xs (upper-tried (totals (length xs) xs) upper)
-  unfolding upper-tried
-  upper-tried-for Absent = refl
-  upper-tried-for (At u) = tried-at _
-
-  pub lower-tried-for : (lower : Limit) → TriedFor lower xs (lower-tried (totals (length xs) xs) lower)
-  unfolding lower-tried
-  lower-tried-for Absent = refl
-  lower-tried-for (At l) = tried-at _

@@ -53,7 +53,7 @@ pub record ByTable106-1 (upper lower : Limit) (xs : List ℤ) (p : Percentages) 
   pub found : table-106-1 (length xs) ≡ a-column column
   pub published : AsPublished column upper lower xs p
 
--- Two answers with the same percentages. How many rows were tried for them these papers do not say; document 02 does (rules/specs/Halving.antt).
+-- Two answers with the same percentages. How many rows were tried for them these papers do not say; document 02 does (Tried.antt).
 abbrev pub SamePercentages : Percentages → Percentages → Type 0
 SamePercentages p q = (p .upper ≡ q .upper) × (p .lower ≡ q .lower) × (p .pwl ≡ q .pwl)
 

@@ -73,7 +73,7 @@ pub fn with_column(said: TotalsAnswer) -> TotalsAnswer
     }
 }
 
-// Both sides and PWL, by Table 106-1's column for the count, which is looked up here, once.
+// Both sides and PWL, and the rows tried for each side, by Table 106-1's column for the count, which is looked up here, once.
 // Inner: the entries pass totals and limits of a lot that is not refused and has a column.
 pub fn percentages(a: Totals, upper: Limit, lower: Limit) -> Percentages
     requires { ⌜ Bounded a × (out-of-range upper ≡ false) × (out-of-range lower ≡ false) × (has-column (table-106-1 (a .n)) ≡ true) ⌝ }

@@ -53,7 +53,7 @@ fn rest(part: Hundredths) -> Hundredths
     Hundredths(HUNDRED_PERCENT - part.0)
 }
 
-// The percentage of a side at a distance D.
+// The percentage of a side at a distance D, and the rows tried for it.
 fn side(column: &[u8], n: u32, v: u64, d: i64) -> SideLookup
     requires { ⌜ ColumnIn (now column) × SpreadInBounds n v × DistanceInBounds d ⌝ }
     ensures { λ r. ⌜ (r .percentage .0 ≡ side nearest (column-in (now (column .entry))) n (pos v) d) × InPercent (r .percentage .0) × (r .tried ≡ rows-tried n (pos v) d) ⌝ }

@@ -11,7 +11,7 @@ use Rattle.integers.proofs.Order.{pos-mono}
 use Rattle.rules.specs.Table.{last-row}
 use Rattle.rules.specs.Percent.{admits}
 use Rattle.rules.specs.Halving.{Halving, middle, raised, lowered, halved, handheld}
-use Rattle.laws.proofs.Halving.{goes-up, goes-down, stays}
+use Rattle.laws.proofs.Halving.{goes-up, goes-down, met-ends-stay}
 use Rattle.laws.proofs.RowsTried.{handheld-finds-the-row}
 use Rattle.quality.proofs.row.row.Statement.{statement}
 use Rattle.quality.proofs.row.row.Tie as tie
@@ -97,7 +97,7 @@ over c =
     let f = c .before .before .fits .d in
     let d : ℤ = toZ w64 (ofZ w64 (args .d)) in
     let met : end c .low ≡ end c .high = omega arith in
-    simp toZ-ofZ at (sym (stays (admits (args .n) (pos (args .v)) d) (last-row - end c .tried) (end c) met) ∙ c .before .loop .inv .3)
+    simp toZ-ofZ at (sym (met-ends-stay (admits (args .n) (pos (args .v)) d) (last-row - end c .tried) (end c) met) ∙ c .before .loop .inv .3)
 
 returns : tie.Need-returns Inv-loop μ-loop
 returns c =

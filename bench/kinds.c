@@ -34,15 +34,18 @@ CALL(evaluate, struct tulpavice_percentages)
     const struct tulpavice_lot *lot = &inputs->lots[i];
     return who->evaluate(lot->readings, lot->count, lot->upper, lot->upper_present, lot->lower, lot->lower_present);
 }
-LOOP(evaluate, struct tulpavice_percentages, a.refusal.number + a.upper + a.lower + a.pwl + a.tried_upper + a.tried_lower)
+LOOP(evaluate, struct tulpavice_percentages,
+     a.refusal.number + a.upper + a.lower + a.pwl + a.tried_upper + a.tried_lower)
 ANSWER(evaluate, struct tulpavice_percentages, a.refusal.number, a.upper, a.lower, a.pwl, a.tried_upper, a.tried_lower)
 
 CALL(evaluate_lot, struct tulpavice_percentages)
 {
     return who->evaluate_lot(inputs->lots[i]);
 }
-LOOP(evaluate_lot, struct tulpavice_percentages, a.refusal.number + a.upper + a.lower + a.pwl + a.tried_upper + a.tried_lower)
-ANSWER(evaluate_lot, struct tulpavice_percentages, a.refusal.number, a.upper, a.lower, a.pwl, a.tried_upper, a.tried_lower)
+LOOP(evaluate_lot, struct tulpavice_percentages,
+     a.refusal.number + a.upper + a.lower + a.pwl + a.tried_upper + a.tried_lower)
+ANSWER(evaluate_lot, struct tulpavice_percentages, a.refusal.number, a.upper, a.lower, a.pwl, a.tried_upper,
+       a.tried_lower)
 
 CALL(read, struct tulpavice_read)
 {

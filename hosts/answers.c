@@ -1,7 +1,8 @@
 /* Answers calls of the library, so that another program's answers can be held against them: calls come from standard
    input, one a line, and each is answered by a line, which begins with the name of the call.
 
-     lot U UP L LP N r1..rN           the mean, the percentages with the rows tried, and of the row its refusal, mean and PWL
+     lot U UP L LP N r1..rN           the mean, the percentages with the rows tried, and of the row its refusal, mean
+                                      and PWL
      deviation U UP L LP N r1..rN     the deviation, the row's, and the row in one call
      bytes U UP L LP HEX              the row of readings that come as bytes, by its four calls and then in one
      held U UP L LP COUNT r0..r16     the percentages of a lot, with the rows tried

@@ -78,12 +78,17 @@ $(LAYOUT): hosts/layout.c include/tulpavice.h
 	@mkdir -p $(@D)
 	@$(COMPILE) $<
 
-$(HOST)/%.o: $(HOSTS)/%.c $(LAYOUT)
+$(HOST)/%.o: $(HOSTS)/%.c $(wildcard $(HOSTS)/*.h) $(LAYOUT)
 	@mkdir -p $(@D)
 	@$(COMPILE) $<
 
+# A program is one file, and those that are named below. The library comes last: it gives what was asked for by then.
 $(HOST)/%: $(HOST)/%.o $(LIBRARY).a
-	@$(LINK) $^ > $@.log 2>&1 || { cat $@.log; exit 1; }
+	@$(LINK) $(filter %.o,$^) $(filter %.a,$^) > $@.log 2>&1 || { cat $@.log; exit 1; }
+
+ifeq ($(HOSTS),hosts)
+$(HOST)/notebook: $(HOST)/words.o $(HOST)/sheet.o
+endif
 
 # Plain C has the table's figures from the data file.
 target/bench/table.h: bench/table.py data/table-106-1.tsv

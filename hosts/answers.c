@@ -13,6 +13,9 @@
                                       what was written, with the lent memory and a guard on each side of it; if it was
                                       accepted, the lot read again
      cut SUBLOTS ROOM                 how many lots the job has, with the lent list and a guard on each side of it
+     check LOT LOT LOT PRICE QUANTITY SHEET
+                                      what is found of a sheet; a LOT is U UP L LP COUNT r0..r16, a SHEET its six entries
+     compare SHEET SHEET ROOM         how many entries differ, with the lent list and a guard on each side of it
 
    U and L are the limits, UP and LP their presences. HEX is bytes in hexadecimal, or - for NULL. ROOM counts the bytes
    that are lent, or the numbers of a list. Numbers are decimal; a double is given by its bits and memory byte by byte,
@@ -155,6 +158,18 @@ static struct tulpavice_lot whole_lot(void)
     return lot;
 }
 
+static struct tulpavice_sheet whole_sheet(void)
+{
+    struct tulpavice_sheet sheet;
+    sheet.vma = number_i64();
+    sheet.voids = number_i64();
+    sheet.density = number_i64();
+    sheet.composite = number_i64();
+    sheet.verdict = number_i64();
+    sheet.pay = number_i64();
+    return sheet;
+}
+
 /* The readings as plain numbers, and after them the same as bytes. */
 static const int32_t *readings(size_t *count, const uint8_t **as_bytes)
 {
@@ -187,7 +202,7 @@ static void print(int64_t value)
 
 static void print_bytes(const uint8_t *bytes, size_t size)
 {
-    char text[1 + 2 * sizeof(uint32_t) * MOST_MEMORY];
+    char text[1 + 2 * sizeof(int64_t) * MOST_MEMORY];
     text[0] = ' ';
     for (size_t i = 0; i < size; i++) {
         text[1 + 2 * i] = "0123456789abcdef"[bytes[i] >> 4];
@@ -365,6 +380,35 @@ static void answer_cut(void)
     print_bytes((const uint8_t *)memory, size);
 }
 
+static void answer_check(void)
+{
+    struct tulpavice_lot vma = whole_lot();
+    struct tulpavice_lot voids = whole_lot();
+    struct tulpavice_lot density = whole_lot();
+    int64_t price = number_i64();
+    int64_t quantity = number_i64();
+    struct tulpavice_checked answer = tulpavice_check(vma, voids, density, price, quantity, whole_sheet());
+    print(answer.refusal.number);
+    print(answer.accepted);
+    print(answer.entry);
+    print(answer.sheet);
+    print(answer.ours);
+}
+
+static void answer_compare(void)
+{
+    struct tulpavice_sheet first = whole_sheet();
+    struct tulpavice_sheet second = whole_sheet();
+    size_t room = (size_t)number(0, MOST_ROOM);
+    int64_t memory[MOST_MEMORY];
+    size_t size = (GUARD + room + GUARD) * sizeof *memory;
+    fill(memory, size);
+    struct tulpavice_listed answer = tulpavice_compare(first, second, room ? memory + GUARD : NULL, room);
+    print(answer.refusal.number);
+    print((int64_t)answer.items);
+    print_bytes((const uint8_t *)memory, size);
+}
+
 static const struct {
     const char *name;
     void (*answer)(void);
@@ -378,6 +422,8 @@ static const struct {
     {"read", answer_read},
     {"write", answer_write},
     {"cut", answer_cut},
+    {"check", answer_check},
+    {"compare", answer_compare},
 };
 
 static void answer_line(void)

@@ -64,6 +64,21 @@ SIZE(listed, 16);
 AT(listed, refusal, 0);
 AT(listed, items, 8);
 
+SIZE(sheet, 48);
+AT(sheet, vma, 0);
+AT(sheet, voids, 8);
+AT(sheet, density, 16);
+AT(sheet, composite, 24);
+AT(sheet, verdict, 32);
+AT(sheet, pay, 40);
+
+SIZE(checked, 32);
+AT(checked, refusal, 0);
+AT(checked, accepted, 4);
+AT(checked, entry, 8);
+AT(checked, sheet, 16);
+AT(checked, ours, 24);
+
 SIZE(row, 32);
 AT(row, refusal, 0);
 AT(row, mean, 8);

@@ -15,12 +15,13 @@
      7  the lower limit above the upper
      8  lent memory shorter than what is to be written
      9  in pay: a number below 0, a PWL above 10,000, a price above 10,000,000 or a quantity above 100,000,000;
-        in the mixture lookup: a mixture number not 0 to 3; in the cut of a job: more than 4,096 sublots
+        in the mixture lookup: a mixture number not 0 to 3; in the cut of a job: more than 4,096 sublots; of a pay
+        sheet: an entry below 0 or above 1,000,000,000,000,000, or a verdict that is neither 0 nor 1
     10  no column in Table 106-1, which has those for 2 to 10 readings; only where a percentage is asked for
 
-   The lowest that applies is given, of those that the call can meet, except that the cut of a job looks for 9 before 8.
-   Each struct that is answered begins with the refusal, whose number is 0 for none; of what is refused every other
-   number is 0.
+   The lowest that applies is given, of those that the call can meet, except where lots are cut and where pay sheets are
+   checked or compared: these calls have an order of their own. Each struct that is answered begins with the
+   refusal, whose number is 0 for none; of what is refused every other number is 0.
 
    A limit is a number and a presence: 0 is absent, and its number is then not read; any other is present.
 
@@ -47,7 +48,7 @@ extern "C" {
 
 /* The first number goes up where a program must be built anew or is answered otherwise, the second where more is
    offered. docs/VERSIONS.md says what each version has. */
-#define TULPAVICE_VERSION "4.0.0"
+#define TULPAVICE_VERSION "4.1.0"
 
 /* The most readings that a lot can hold, and the most bytes that its record can have. */
 #define TULPAVICE_MOST 17
@@ -56,6 +57,9 @@ extern "C" {
 /* The most sublots of a job that is cut, and how many lots that job has: two numbers to each are room for any job. */
 #define TULPAVICE_MOST_SUBLOTS 4096
 #define TULPAVICE_MOST_LOTS ((TULPAVICE_MOST_SUBLOTS + 2) / 10)
+
+/* How many entries a pay sheet has: two numbers to each are room for any comparison. */
+#define TULPAVICE_ENTRIES 6
 
 /* Why there is no answer: the number above, or 0 where there is one. */
 struct tulpavice_refusal {
@@ -135,6 +139,27 @@ struct tulpavice_listed {
     size_t items;
 };
 
+/* A pay sheet, its entries 0 to 5 in this order: the PWLs of VMA, voids and density, the composite, the verdict on the lot
+   (0 accepted, 1 rejected), and what is paid. */
+struct tulpavice_sheet {
+    int64_t vma;
+    int64_t voids;
+    int64_t density;
+    int64_t composite;
+    int64_t verdict;
+    int64_t pay;
+};
+
+/* What is found of a sheet: it is accepted (1), or not (0), and then there is a first entry that differs, with the sheet's
+   number and ours. Of an accepted sheet these three are 0. */
+struct tulpavice_checked {
+    struct tulpavice_refusal refusal;
+    uint32_t accepted;
+    uint32_t entry;
+    int64_t sheet;
+    int64_t ours;
+};
+
 /* The notebook's row: mean and deviation in the readings' own units, thousandths over 1000, and PWL in percent. */
 struct tulpavice_row {
     struct tulpavice_refusal refusal;
@@ -187,6 +212,20 @@ struct tulpavice_written tulpavice_write(struct tulpavice_lot lot, uint8_t *out,
    before it. The numbers past the lots stay, and a refused cut leaves every number. All `room` numbers are lent, also
    those that are not written. Refusals 9 and then 8. */
 struct tulpavice_listed tulpavice_cut(size_t sublots, uint32_t *out, size_t room);
+
+/* Checks a pay sheet for the lots of three characteristics, a price in cents a ton and a quantity in hundredths of a ton.
+   Accepted is the sheet that the calls above give for them, and no other. The refusals in this order: all of the first
+   lot's, as tulpavice_evaluate_lot gives them, all of the second's, all of the third's; then 9 for price or quantity, and
+   then 9 for the sheet. A PWL or a composite that cannot be, such as 10,001, is no refusal but differs. */
+struct tulpavice_checked tulpavice_check(struct tulpavice_lot vma, struct tulpavice_lot voids,
+                                         struct tulpavice_lot density, int64_t price, int64_t quantity,
+                                         struct tulpavice_sheet sheet);
+
+/* Compares two sheets, from the start of a lent list: two numbers to each entry that differs, in their order, the entry
+   and the first sheet's number less the second's. The numbers past these stay, and a refused comparison leaves every
+   number. All `room` numbers are lent, also those that are not written. Refusals 9, of either sheet, and then 8. */
+struct tulpavice_listed tulpavice_compare(struct tulpavice_sheet first, struct tulpavice_sheet second, int64_t *out,
+                                          size_t room);
 
 /* The notebook's row, of readings that come as bytes, four to each, two's complement, highest first, as in a record.
    Each double is one division of exact doubles, and 0 where the lot is refused. Refusals 4 to 7 and 10. */

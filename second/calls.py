@@ -11,7 +11,9 @@ from lots import (
     closest_misses, COLUMNS, counted, COUNTS, desk, equal, extreme, farthest_apart, hairs, halves, INT32, JOINED,
     joined, limited, near_ties, realistic, refused, SIZES, small, some, spoiled, subsets, ties, uniform, UNREAD,
 )
-from papers import HEAD, MOST, MOST_SUBLOTS, RANGE, lot_of, lots_of, pack
+from papers import (
+    differences, ENTRIES, HEAD, lot_of, lots_of, MOST, MOST_ENTRY, MOST_SUBLOTS, our_sheet, pack, RANGE,
+)
 
 INT64 = -(2**63), 2**63 - 1
 
@@ -274,6 +276,118 @@ def pays(rng):
         yield line("pay", *percents, price, quantity)
 
 
+# Pay sheets.
+
+
+def sheet_lots(rng):
+    """Lots that have a percentage, most of them as they come from a job; few, so that each is in many sheets."""
+    extremes = equal(rng, 100), extreme(rng, 100), uniform(rng, 100, RANGE)
+    return [*desk(), *realistic(rng, 1_000), *small(rng, 200), *itertools.chain(*extremes)]
+
+
+def in_memory(rng, lot):
+    return *lot[:4], len(lot[4]), *placed(rng, lot[4])
+
+
+def priced(rng):
+    usual = rng.randrange(3_000, 15_000), rng.randrange(3_000_000)
+    return rng.choice((usual, usual, (rng.randint(0, MOST_PRICE), rng.randint(0, MOST_QUANTITY))))
+
+
+def right_sheet(lots, price, quantity):
+    return our_sheet([lot_of(*lot[:4], len(lot[4]), tuple(lot[4])) for lot in lots], price, quantity)
+
+
+def changed(rng, sheet, entries):
+    """The sheet with these entries changed, mostly by one unit; a verdict to the other one."""
+    changed = list(sheet)
+    for entry in entries:
+        off = rng.choice((-1, 1, -1, 1, -100, 100, rng.randint(1, 10**9)))
+        changed[entry] = 1 - changed[entry] if entry == 4 else changed[entry] + off
+    return changed
+
+
+# What an entry is taken for and what not; of a verdict, less is.
+ENTRY_BOUNDS = INT64[0], -1, 0, 1, 2, HUNDRED + 1, MOST_ENTRY - 1, MOST_ENTRY, MOST_ENTRY + 1, INT64[1]
+
+
+def unfit(rng, sheet):
+    entry = rng.randrange(ENTRIES)
+    bad = (INT64[0], -1, 2, MOST_ENTRY, INT64[1]) if entry == 4 else (INT64[0], -1, MOST_ENTRY + 1, INT64[1])
+    return [*sheet[:entry], rng.choice(bad), *sheet[entry + 1 :]]
+
+
+def bad_priced(rng):
+    if rng.random() < 0.5:
+        return rng.choice((INT64[0], -1, MOST_PRICE + 1, INT64[1])), rng.randint(0, MOST_QUANTITY)
+    return rng.randint(0, MOST_PRICE), rng.choice((INT64[0], -1, MOST_QUANTITY + 1, INT64[1]))
+
+
+def check_line(rng, lots, price, quantity, sheet):
+    return line("check", *(number for lot in lots for number in in_memory(rng, lot)), price, quantity, *sheet)
+
+
+def checks(rng):
+    pool = sheet_lots(rng)
+    for _ in range(10_000):
+        lots, (price, quantity) = rng.choices(pool, k=3), priced(rng)
+        sheet = right_sheet(lots, price, quantity)
+        yield check_line(rng, lots, price, quantity, sheet)
+        for entry in range(ENTRIES):
+            yield check_line(rng, lots, price, quantity, changed(rng, sheet, [entry]))
+        for several in 2, 2, rng.randint(3, ENTRIES):
+            yield check_line(rng, lots, price, quantity, changed(rng, sheet, rng.sample(range(ENTRIES), several)))
+        # of the lots in another order, so that what is wrong lies in the lots
+        yield check_line(rng, lots[::-1], price, quantity, sheet)
+    for entry, number, _ in itertools.product(range(ENTRIES), ENTRY_BOUNDS, range(10)):
+        lots, (price, quantity) = rng.choices(pool, k=3), priced(rng)
+        sheet = right_sheet(lots, price, quantity)
+        for start in sheet, changed(rng, sheet, [rng.randrange(ENTRIES)]):
+            yield check_line(rng, lots, price, quantity, [*start[:entry], number, *start[entry + 1 :]])
+    for price, quantity in itertools.product(around(MOST_PRICE), around(MOST_QUANTITY)):
+        lots = rng.choices(pool, k=3)
+        sheet = right_sheet(lots, 8_000, 800_000)
+        yield check_line(rng, lots, price, quantity, sheet)
+        yield check_line(rng, lots, price, quantity, unfit(rng, sheet))
+    yield from refused_checks(rng, pool)
+
+
+def refused_checks(rng, pool):
+    """Each lot refused for each reason or for none, and with it prices and sheets that are refused and that are not."""
+    reasons = (), (4,), (5,), (6,), (7,), (10,), (4, 5), (5, 7), (7, 10)
+    for given in itertools.product(reasons, repeat=3):
+        for bad_price, bad_sheet in itertools.product((False, True), repeat=2):
+            lots = [spoiled(rng, why, some(rng, why, SIZES)) if why else rng.choice(pool) for why in given]
+            price, quantity = bad_priced(rng) if bad_price else priced(rng)
+            sheet = [0] * ENTRIES if any(given) or bad_price else right_sheet(lots, price, quantity)
+            yield check_line(rng, lots, price, quantity, unfit(rng, sheet) if bad_sheet else sheet)
+
+
+def some_sheet(rng):
+    most = rng.choice((2, HUNDRED, 10**6, MOST_ENTRY))
+    return [rng.randrange(2) if entry == 4 else rng.randint(0, most) for entry in range(ENTRIES)]
+
+
+def compares(rng):
+    """Sheets that differ in any of their entries, with lists too short, fitting and longer; and sheets that are refused."""
+    for entries, _ in itertools.product(subsets(range(ENTRIES)), range(350)):
+        first = some_sheet(rng)
+        second = [abs(entry) for entry in changed(rng, first, entries)]
+        need = 2 * len(differences(first, second))
+        for room in {0, rng.choice((1, need + 3)), max(0, need - 1), need, need + rng.choice((1, 2, 6))}:
+            yield line("compare", *first, *second, room)
+    for entry, number, other in itertools.product(range(ENTRIES), ENTRY_BOUNDS, ENTRY_BOUNDS):
+        sheet = some_sheet(rng)
+        for before, after in (number, other), (number, sheet[entry]), (sheet[entry], other):
+            pair = [[*sheet[:entry], one, *sheet[entry + 1 :]] for one in (before, after)]
+            for room in 0, 1, 2, 12:
+                yield line("compare", *pair[0], *pair[1], room)
+    for room, _ in itertools.product((0, 1, 2, 11, 12, 13), range(50)):
+        good, bad, worse = some_sheet(rng), unfit(rng, some_sheet(rng)), unfit(rng, some_sheet(rng))
+        for pair in (good, bad), (bad, good), (bad, worse), (bad, bad):
+            yield line("compare", *pair[0], *pair[1], room)
+
+
 # Limits by mixture.
 
 MIXTURES = INT64[0], -(2**32), -1, 0, 1, 2, 3, 4, 5, 2**32, 2**32 + 1, INT64[1]
@@ -297,5 +411,5 @@ def mixtures(rng):
 
 def calls(seed):
     rng = random.Random(seed)
-    for kind in lots, deviations, rows, held, reads, writes, cuts, pays, mixtures:
+    for kind in lots, deviations, rows, held, reads, writes, cuts, pays, mixtures, checks, compares:
         yield from kind(rng)

@@ -24,6 +24,8 @@ KINDS = {
     "write": ("records written", 100_000),
     "cut": ("jobs cut", 20_000),
     "pay": ("pay inputs", 200_000),
+    "check": ("pay sheets checked", 100_000),
+    "compare": ("pay sheets compared", 100_000),
     "mixture": ("mixture lookups", 200_000),
 }
 SHOWN = 5

@@ -2,9 +2,9 @@
 
 The library works with whole numbers squared. Here the mean is a quotient, the deviation a root and the index the
 limit's distance from that mean over that deviation; that index is rounded to its row, and what a handheld tries is
-counted by halving a list of the rows; pay is reckoned in percent, dollars and tons, and a job is dealt out into lots
-sublot by sublot. Run by itself it answers calls from standard input, a line each, as hosts/answers.c does over the
-library.
+counted by halving a list of the rows; pay is reckoned in percent, dollars and tons, a job is dealt out into lots
+sublot by sublot, and of two pay sheets all differences are looked for, also where the first alone is asked for. Run by
+itself it answers calls from standard input, a line each, as hosts/answers.c does over the library.
 
 Why 60 digits decide an exact tie. An index is looked up for at most ten readings. With n of them its square is a
 fraction whose denominator divides n * (n * (sum of squares) - (sum)^2), which is at most 2.5e14. Two fractions that
@@ -168,6 +168,28 @@ def payment(vma, voids, density, price, quantity):
     return [int(composite * 1000), *verdicts, max(verdicts), int(cents)]
 
 
+ENTRIES = 6
+MOST_ENTRY = 10**15
+
+
+# a lot is held in several sheets
+@functools.lru_cache(maxsize=None)
+def pwl(lot):
+    return evaluate(lot)[2]
+
+
+def our_sheet(lots, price, quantity):
+    """The pay sheet of three lots: their PWLs, the composite, the lot's verdict and the pay."""
+    percents = [pwl(lot) for lot in lots]
+    composite, *_, verdict, pay = payment(*percents, price, quantity)
+    return [*percents, composite, verdict, pay]
+
+
+def differences(first, second):
+    """Of each entry in which two sheets differ its place and both numbers."""
+    return [(entry, *both) for entry, both in enumerate(zip(first, second)) if len(set(both)) == 2]
+
+
 def offset_limits(minimum, target):
     """The limits of VMA and of voids, in percent."""
     minimum, target = Decimal(minimum) / 1000, Decimal(target) / 1000
@@ -243,6 +265,8 @@ JOB = [
     (9, lambda sublots, _: sublots > MOST_SUBLOTS),
     (8, lambda sublots, room: room < 2 * len(lots_of(sublots))),
 ]
+SHEET = [(9, lambda sheet: not (0 <= min(sheet) and max(sheet) <= MOST_ENTRY and sheet[4] in (0, 1)))]
+LISTED = [(8, lambda first, second, room: room < 2 * len(differences(first, second)))]
 
 
 # The answer lines. Each double of the notebook's row is one division, and is compared by its bits.
@@ -340,18 +364,42 @@ def answer_write(upper, upper_present, lower, lower_present, count, *places_and_
     return f"0 {len(record)} {memory.hex()} {spaced(0, *in_places(lot))}"
 
 
-NUMBER = 4  # bytes, lowest first, in a lent list
+def lent_list(refused, width, room, items):
+    """A refusal, how many items were listed, and the memory after it: two numbers to an item, of so many bytes, lowest first."""
+    memory = PATTERN[: width * (GUARD + room + GUARD)]
+    if refused:
+        return f"{refused} 0 {memory.hex()}"
+    listed = b"".join(number.to_bytes(width, "little", signed=True) for item in items for number in item)
+    memory = memory[: width * GUARD] + listed + memory[width * GUARD + len(listed) :]
+    return f"0 {len(items)} {memory.hex()}"
 
 
 def answer_cut(sublots, room):
     refused = refusal(JOB, sublots, room)
-    memory = PATTERN[: NUMBER * (GUARD + room + GUARD)]
+    return lent_list(refused, 4, room, [] if refused else lots_of(sublots))
+
+
+LIMITS = 5  # numbers before the places of a lot: its limits, their presences and its count
+
+
+def answer_check(*given):
+    lots = []
+    for _ in range(3):
+        lots.append(lot_of(*given[:LIMITS], given[LIMITS : LIMITS + MOST]))
+        given = given[LIMITS + MOST :]
+    price, quantity, *sheet = given
+    refused = next(filter(None, (refusal(LOOKUP, lot) for lot in lots)), 0)
+    refused = refused or refusal(PAY, 0, 0, 0, price, quantity) or refusal(SHEET, sheet)
     if refused:
-        return f"{refused} 0 {memory.hex()}"
-    lots = lots_of(sublots)
-    listed = b"".join(number.to_bytes(NUMBER, "little") for lot in lots for number in lot)
-    memory = memory[: NUMBER * GUARD] + listed + memory[NUMBER * GUARD + len(listed) :]
-    return f"0 {len(lots)} {memory.hex()}"
+        return spaced(refused, 0, 0, 0, 0)
+    wrong = differences(sheet, our_sheet(lots, price, quantity))
+    return spaced(0, 0, *wrong[0]) if wrong else spaced(0, 1, 0, 0, 0)
+
+
+def answer_compare(*given):
+    first, second, room = given[:ENTRIES], given[ENTRIES:-1], given[-1]
+    refused = refusal(SHEET, first) or refusal(SHEET, second) or refusal(LISTED, first, second, room)
+    return lent_list(refused, 8, room, [(entry, ours - theirs) for entry, ours, theirs in differences(first, second)])
 
 
 ANSWERS = {
@@ -364,6 +412,8 @@ ANSWERS = {
     "read": answer_read,
     "write": answer_write,
     "cut": answer_cut,
+    "check": answer_check,
+    "compare": answer_compare,
 }
 
 

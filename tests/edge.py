@@ -13,7 +13,7 @@ BESIDE = {"number": "", "presence": "_present", "lower": "_lower", "upper": "_up
 WIDTH = {"uint8_t": 1, "int32_t": 4, "uint32_t": 4, "int64_t": 8, "size_t": 8, "double": 8}
 # All that the header and the layout tell the preprocessor; a line more could make what is read here mean something else.
 TOLD = {
-    HEADER: r"""#(ifndef|define) TULPAVICE_H|#include <std(def|int)\.h>|#ifdef __cplusplus|#endif|#define TULPAVICE_(VERSION "[\d.]+"|MOST(_SUBLOTS)? \d+|MOST_BYTES \(13 \+ 4 \* TULPAVICE_MOST\)|MOST_LOTS \(\(TULPAVICE_MOST_SUBLOTS \+ 2\) / 10\))""",
+    HEADER: r"""#(ifndef|define) TULPAVICE_H|#include <std(def|int)\.h>|#ifdef __cplusplus|#endif|#define TULPAVICE_(VERSION "[\d.]+"|(MOST(_SUBLOTS)?|ENTRIES) \d+|MOST_BYTES \(13 \+ 4 \* TULPAVICE_MOST\)|MOST_LOTS \(\(TULPAVICE_MOST_SUBLOTS \+ 2\) / 10\))""",
     LAYOUT: r"""#include "tulpavice\.h"|#define (SIZE|AT)\([\w, ]*\) _Static_assert\(.*\)""",
 }
 # And what else stands there: types and calls, of which the functions below read all parts.

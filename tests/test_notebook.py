@@ -1,4 +1,6 @@
-"""The notebook: document 000's worked example as `make run` shows it, the lots of a file, each answered or told, and a job cut into lots."""
+"""The notebook: document 000's worked example as `make run` shows it, the lots of a file, each answered or told, and a job cut into lots.
+
+test_sheet.py has the pay sheets."""
 import os
 import pathlib
 import pty
@@ -11,36 +13,12 @@ import tempfile
 import tty
 import unittest
 
-from building import ROOT, make, running
+from building import ROOT, make
+from notebook import command, LIMITS, notebook, PROGRAM, READINGS, ROWS, shown
 
 PAPERS = sorted((ROOT.parent / "shared").glob("000_*.txt"))
-PROGRAM = "target/host/notebook"
 ANSWER = re.compile(r"line +(\d+) +mean +(-?\d+\.\d{3}) +deviation +(\d+\.\d{3}) +PWL +(\d+\.\d\d)")
 FAULT = re.compile(r"notebook: line (\d+): (.+)")
-
-# document 000's readings, and the limits that follow from a minimum of 13.0, a target of 4.0 and its Table 1
-READINGS = {
-    "VMA": "13.0 12.5 13.0 13.3 12.9 12.4 13.4 13.0 12.6 12.8",
-    "Voids": "4.2 4.5 3.3 5.0 5.4 2.5 3.8 4.1 4.3 4.5",
-    "Density": "91.5 93.0 92.9 93.5 93.0 94.0 92.8 93.5 91.0 92.7",
-}
-LIMITS = {"VMA": "12.30 16.00", "Voids": "2.65 5.35", "Density": "91.50 97.00"}
-# mean and deviation as document 000 has them, PWL as document 01 has it
-ROWS = {"VMA": "12.890 0.325 97.51", "Voids": "4.160 0.825 91.28", "Density": "92.790 0.910 92.56"}
-
-
-def setUpModule():
-    global COMMAND
-    *words, program = running(PROGRAM)
-    COMMAND = [*words, str(ROOT / program)]
-
-
-def notebook(*words, **more):
-    """Runs the program, with nothing to read where nothing is given."""
-    streams = {"stdout": subprocess.PIPE, "stderr": subprocess.PIPE, **more}
-    if "input" not in streams:
-        streams.setdefault("stdin", subprocess.DEVNULL)
-    return subprocess.run([*COMMAND, *words], **streams)
 
 
 def lines(pattern, text):
@@ -183,12 +161,6 @@ class Lots(unittest.TestCase):
 
     def test_the_range_has_its_ends(self):
         self.answered("- 500 500 500\n-500 - -500.000 -500", ["500.000 0.000 100.00", "-500.000 0.000 100.00"])
-
-
-def shown(word):
-    """A word as it is told: its first 24 bytes, and by its number each that is no letter, digit or sign."""
-    start = "".join(chr(byte) if 32 < byte < 127 else f"\\x{byte:02x}" for byte in word[:24])
-    return f'"{start}{"..." * (len(word) > 24)}"'
 
 
 class BadLines(unittest.TestCase):
@@ -357,22 +329,26 @@ class Usage(unittest.TestCase):
 
     def test_help_begins_with_a_line_that_can_be_pasted(self):
         """What it shows is answered; here the program may need an emulator's words before its name."""
-        command, answer, _ = notebook("--help").stdout.decode().split("\n", 2)
+        pasted, answer, _ = notebook("--help").stdout.decode().split("\n", 2)
         answer = answer.removeprefix("    is answered by: ")
         name = str(ROOT / PROGRAM)
-        self.assertTrue(command.endswith(f" | {name} -"), command)
-        ran = subprocess.run(["sh", "-c", command.replace(name, shlex.join(COMMAND))], capture_output=True, text=True)
+        self.assertTrue(pasted.endswith(f" | {name} -"), pasted)
+        ran = subprocess.run(["sh", "-c", pasted.replace(name, shlex.join(command()))], capture_output=True, text=True)
         self.assertEqual((ran.stdout, ran.stderr, ran.returncode), (f"{answer}\n", "", 0))
         self.assertEqual(lines(ANSWER, answer.encode()), [(1, ROWS["Voids"])])
 
     def test_the_manual_s_examples(self):
-        """The page is a text for roff, in which a minus is written with a backslash."""
+        """The page is a text for roff, in which a minus is written with a backslash. A file that it shows is there before."""
         page = (ROOT / "hosts/notebook.1.in").read_text("utf-8").replace("\\-", "-")
-        examples = re.findall(r"^\$ (.*\btulpavice-notebook -.*)\n((?:[^.$\n].*\n)+)", page, re.M)
-        self.assertEqual(len(examples), 3)
-        for command, printed in examples:
-            ran = subprocess.run(["sh", "-c", command.replace("tulpavice-notebook", shlex.join(COMMAND))], capture_output=True, text=True)
-            self.assertEqual(ran.stdout + ran.stderr, printed.removeprefix("tulpavice-"))
+        examples, files = (re.findall(rf"^\$ {words}\n((?:[^.$\n].*\n)+)", page, re.M) for words in (r"(.*\btulpavice-notebook -.*)", r"cat (\S+)"))
+        self.assertEqual((len(examples), len(files)), (4, 1))
+        with tempfile.TemporaryDirectory() as folder:
+            for name, text in files:
+                (pathlib.Path(folder) / name).write_text(text)
+            for words, printed in examples:
+                words = words.replace("tulpavice-notebook", shlex.join(command()))
+                ran = subprocess.run(["sh", "-c", words], cwd=folder, capture_output=True, text=True)
+                self.assertEqual(ran.stdout + ran.stderr, printed.removeprefix("tulpavice-"))
 
     def test_the_manual_names_what_help_names(self):
         page = (ROOT / "hosts/notebook.1.in").read_text("utf-8").replace("\\-", "-")
@@ -406,20 +382,31 @@ class Usage(unittest.TestCase):
                                  (["--tabs", "-", "x"], "x", more), (["-", "--tabs"], "--tabs", more), (["--tab", "-"], "--tab", here), (["-x"], "-x", here),
                                  (["--tabs", "--help"], "--help", here), (["--help", "-"], "--help", here), (["--"], "--", here),
                                  (["--cut"], "--cut", "needs a number of sublots"), (["--tabs", "--cut"], "--cut", "needs a number of sublots"),
+                                 (["--check"], "--check", "needs a file, or - for standard input"), (["--check", "-", "x"], "x", more),
+                                 (["--tabs", "--check"], "--check", "needs a file, or - for standard input"), (["--check", "--tabs", "-"], "--tabs", here),
+                                 (["-", "--check"], "--check", more), (["--check", "--cut", "18"], "--cut", here), (["--cut", "--check", "-"], "--check", here),
                                  (["--cut", "18", "19"], "19", more), (["--cut", "--tabs", "18"], "--tabs", here), (["--cut", "-5"], "-5", here),
                                  *((["--cut", word], word, "is not a number of sublots") for word in ("", "x", "18x", "1.5", "+18", " 18", "0x12", "-"))):
             ran = notebook(*words, input=b"- 4 4 4\n")
             self.assertEqual((ran.stdout, ran.stderr.decode(), ran.returncode), (b"", f'notebook: "{word}" {why}; --help shows how notebook is used\n', 2))
 
+    def test_it_is_built_anew_where_a_header_changes(self):
+        command()
+        compiled = re.compile(r"\bhosts/(\w+)\.c\b")
+        self.assertEqual(compiled.findall(make("--dry-run", PROGRAM)), [])
+        for header in "hosts/words.h", "hosts/sheet.h":
+            asked = make("--dry-run", f"--what-if={header}", PROGRAM)
+            self.assertEqual(sorted(compiled.findall(asked)), ["notebook", "sheet", "words"])
+
     def test_it_goes_by_the_name_that_it_is_called(self):
         with tempfile.TemporaryDirectory() as folder:
             other = pathlib.Path(folder) / "tulpavice-notebook"
-            other.symlink_to(COMMAND[-1])
-            ran = subprocess.run([*COMMAND[:-1], str(other), "-"], input=b"x\n", capture_output=True)
+            other.symlink_to(command()[-1])
+            ran = subprocess.run([*command()[:-1], str(other), "-"], input=b"x\n", capture_output=True)
             self.assertEqual(ran.stderr, b'tulpavice-notebook: line 1: the lower limit "x" is not a number\n')
-            ran = subprocess.run([*COMMAND[:-1], str(other), "--help"], capture_output=True, text=True)
+            ran = subprocess.run([*command()[:-1], str(other), "--help"], capture_output=True, text=True)
             self.assertTrue(ran.stdout.split("\n")[0].endswith(f" | {other} -"))
-            self.assertEqual(re.findall(r"\S*notebook", ran.stdout.split("\n", 1)[1]), ["tulpavice-notebook"] * 5)
+            self.assertEqual(re.findall(r"\S*notebook", ran.stdout.split("\n", 1)[1]), ["tulpavice-notebook"] * 6)
 
     def test_a_file_that_cannot_be_opened(self):
         with tempfile.TemporaryDirectory() as folder:
@@ -447,9 +434,10 @@ class Usage(unittest.TestCase):
 
     @unittest.skipUnless(os.path.exists("/dev/full"), "there is no full device here")
     def test_answers_that_cannot_be_written(self):
-        for words in (), ("--help",), ("-",), ("--cut", "18"):
+        sheet = b"vma - 4 4 4\nvoids - 4 4 4\ndensity - 4 4 4\nprice 0\nquantity 0\npwl 100 100 100\ncomposite 1.03\nverdict accepted\npay 0"
+        for words, given in ((), None), (("--help",), None), (("-",), b"- 4 4 4\n"), (("--check", "-"), sheet), (("--cut", "18"), None):
             with open("/dev/full", "wb") as full:
-                ran = notebook(*words, **({"input": b"- 4 4 4\n"} if words == ("-",) else {}), stdout=full)
+                ran = notebook(*words, **({"input": given} if given else {}), stdout=full)
             self.assertEqual((ran.stderr, ran.returncode), (b"notebook: the answers cannot be written\n", 2))
 
 

@@ -1,5 +1,6 @@
 // Answers as the plain numbers that a host in C is given; and limits and lots from the numbers that it gives.
 pub mod lot;
+pub mod sheet;
 
 use rules::DeviationAnswer;
 use rules::Evaluation;
@@ -28,7 +29,8 @@ use rules::host::HostWritten;
 ghost use mathlib.Core.Path.{_≡_};
 ghost use Rattle.rules.specs.Notebook.{lent-limit};
 ghost use Rattle.rules.specs.Answers.{mean-said, deviation-said, evaluation-said, pay-said, mixture-said, write-said, list-said, row-said};
-ghost use Rattle.rules.specs.Host.{refusal-part, host-mean, host-deviation, host-percentages, verdict-number, host-payment, host-pair, host-mixture-limits, host-written, host-listed, host-row};
+ghost use Rattle.rules.specs.Sheet.{verdict-number};
+ghost use Rattle.rules.specs.Host.{refusal-part, host-mean, host-deviation, host-percentages, host-payment, host-pair, host-mixture-limits, host-written, host-listed, host-row};
 
 // The part with which every answer begins, where nothing is refused.
 pub const UNREFUSED: HostRefusal = HostRefusal { number: 0 };

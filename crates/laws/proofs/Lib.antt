@@ -59,6 +59,10 @@ pub mod Job
 pub mod JobLots
 pub mod JobNumbers
 pub mod JobAnswers
+pub mod Differences
+pub mod OurSheet
+pub mod SheetTaken
+pub mod CompareAnswers
 pub mod DeskJob
 pub mod Spelled
 pub mod Words

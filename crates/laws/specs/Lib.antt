@@ -29,3 +29,4 @@ pub mod Desk
 pub mod Tried
 pub mod Totalled
 pub mod Job
+pub mod Sheet

@@ -17,6 +17,10 @@ use Rattle.rules.specs.declared.Outcome.{Outcome}
 use Rattle.rules.specs.declared.ReadAnswer.{ReadAnswer}
 use Rattle.rules.specs.declared.WriteAnswer.{WriteAnswer}
 use Rattle.rules.specs.declared.ListAnswer.{ListAnswer}
+use Rattle.rules.specs.declared.Sheet.{Sheet}
+use Rattle.rules.specs.declared.SheetAnswer.{SheetAnswer}
+use Rattle.rules.specs.declared.Finding.{Finding}
+use Rattle.rules.specs.declared.CheckAnswer.{CheckAnswer}
 use Rattle.rules.specs.declared.Row.{Row}
 use Rattle.rules.specs.declared.RowAnswer.{RowAnswer}
 use Rattle.rules.specs.Said.{Said, refused, answers}
@@ -64,6 +68,14 @@ write-said (WriteAnswer.Refused r) = refused r
 abbrev pub list-said : ListAnswer → Said ℕ
 list-said (ListAnswer.Answers items) = answers items
 list-said (ListAnswer.Refused r) = refused r
+
+abbrev pub sheet-said : SheetAnswer → Said Sheet
+sheet-said (SheetAnswer.Answers sheet) = answers sheet
+sheet-said (SheetAnswer.Refused r) = refused r
+
+abbrev pub check-said : CheckAnswer → Said Finding
+check-said (CheckAnswer.Answers finding) = answers finding
+check-said (CheckAnswer.Refused r) = refused r
 
 abbrev pub row-said : RowAnswer → Said Row
 row-said (RowAnswer.Answers row) = answers row

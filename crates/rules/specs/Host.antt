@@ -10,8 +10,6 @@ use Rattle.rules.specs.declared.Limit.the-variants.{Absent, At}
 use Rattle.rules.specs.declared.HeldLot.{HeldLot}
 use Rattle.rules.specs.declared.Mean.{Mean}
 use Rattle.rules.specs.declared.Percentages.{Percentages}
-use Rattle.rules.specs.declared.Verdict.{Verdict}
-use Rattle.rules.specs.declared.Verdict.the-variants.{Accepted, Rejected}
 use Rattle.rules.specs.declared.Payment.{Payment}
 use Rattle.rules.specs.declared.Limits.{Limits}
 use Rattle.rules.specs.declared.Row.{Row}
@@ -33,6 +31,7 @@ use Rattle.rules.specs.declared.host.HostRow.{HostRow}
 use Rattle.rules.specs.Units.{thousandths}
 use Rattle.rules.specs.Said.{Said, refused, answers}
 use Rattle.rules.specs.Lot.{Lot, lot-of, places}
+use Rattle.rules.specs.Sheet.{verdict-number}
 use Rattle.rules.specs.Refusals.{number-of}
 use Rattle.rules.specs.Notebook.{lent-limit, mean-asked, deviation-asked, pwl-asked}
 use Rattle.rules.specs.Answers.{ReadSaid}
@@ -68,11 +67,6 @@ host-percentages (answers p) =
       pwl = p .pwl .0;
       tried = record { upper = p .tried .upper; lower = p .tried .lower };
     }
-
--- a verdict's number: 0 accepted, 1 rejected
-abbrev pub verdict-number : Verdict → ℕ
-verdict-number Accepted = 0
-verdict-number Rejected = 1
 
 abbrev pub host-payment : Said Payment → HostPayment
 host-payment (refused r) =

@@ -9,10 +9,13 @@ pub mod Percent
 pub mod Halving
 pub mod Deviation
 pub mod Pay
+pub mod Sheet
 pub mod Mixture
 pub mod Refusals
 pub mod Meets
 pub mod Notebook
 pub mod Answers
 pub mod Entries
+pub mod Check
 pub mod Host
+pub mod HostSheet

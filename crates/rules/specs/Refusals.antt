@@ -1,4 +1,4 @@
--- Document 01, "Numbers of refusal", as document 02, R-1, amends it: the table, a definition for each line of it.
+-- Document 01, "Numbers of refusal", as document 02, R-1 and R-4, amends it: the table, a definition for each line of it.
 use mathlib.Core.Bool.{Bool, true, false, not, _&&_, _||_}
 use mathlib.Core.List.{List, [], _∷_}
 use Prim.Native.Nat.{ℕ, _/_, _%_, _-_}
@@ -9,6 +9,7 @@ use lib.Signed.{ltZ}
 use Rattle.rules.specs.declared.Limit.{Limit}
 use Rattle.rules.specs.declared.Limit.the-variants.{Absent, At}
 use Rattle.rules.specs.declared.Pair.{Pair}
+use Rattle.rules.specs.declared.Sheet.{Sheet}
 use Rattle.rules.specs.declared.Refusal.{Refusal}
 use Rattle.rules.specs.declared.Refusal.the-variants.{Size, Version, Flags, Count, Range, Unlimited, Crossed, Room, Number, NoColumn}
 use Rattle.rules.specs.Units.{in-range, hundred-percent}
@@ -134,6 +135,21 @@ offset-case minimum target = given-when Range (pair-out (vma-pair minimum) || pa
 -- 9, in the cut of a job: more than 4,096 sublots
 abbrev pub job-case : ℕ → Case
 job-case sublots = given-when Number (ltb longest-job sublots)
+
+-- the greatest number of a pay sheet's entry
+abbrev pub greatest-entry : ℤ
+greatest-entry = pos 1000000000000000
+
+-- 9, of a pay sheet: an entry below 0 or above 1,000,000,000,000,000, or a verdict that is neither 0 nor 1
+abbrev pub sheet-case : Sheet → Case
+sheet-case sheet =
+    given-when Number
+    (outside greatest-entry (sheet .vma .0)
+    || outside greatest-entry (sheet .voids .0)
+    || outside greatest-entry (sheet .density .0)
+    || outside greatest-entry (sheet .composite .0)
+    || outside (pos 1) (sheet .verdict .0)
+    || outside greatest-entry (sheet .pay .0))
 
 -- 10: the table in use has no column for n
 abbrev pub column-case : Found → Case

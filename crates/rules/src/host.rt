@@ -115,3 +115,22 @@ pub struct HostRow {
     pub deviation: f64,
     pub pwl: f64,
 }
+
+#[repr(C)]
+pub struct HostSheet {
+    pub vma: i64,
+    pub voids: i64,
+    pub density: i64,
+    pub composite: i64,
+    pub verdict: i64,
+    pub pay: i64,
+}
+
+#[repr(C)]
+pub struct HostChecked {
+    pub refusal: HostRefusal,
+    pub accepted: u32,
+    pub entry: u32,
+    pub sheet: i64,
+    pub ours: i64,
+}

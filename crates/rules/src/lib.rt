@@ -31,6 +31,9 @@ pub struct Cents(pub i64);
 // A quantity, in hundredths of a ton.
 pub struct HundredthTons(pub i64);
 
+// A verdict as a pay sheet has it: 0 accepted, 1 rejected. Any number may stand in it.
+pub struct SheetVerdict(pub i64);
+
 pub enum Limit {
     Absent,
     At(Thousandths),
@@ -54,7 +57,7 @@ pub enum Refusal {
     Crossed,
     // 8: no room for what is to be written
     Room,
-    // 9: a number that pay, the mixture lookup or the cut of a job does not take
+    // 9: a number that pay, the mixture lookup, the cut of a job or a pay sheet does not take
     Number,
     // 10: no column in the table for so many readings
     NoColumn,
@@ -210,5 +213,38 @@ pub struct Row {
 
 pub enum RowAnswer {
     Answers(Row),
+    Refused(Refusal),
+}
+
+// A pay sheet, entries 0 to 5. Any numbers may stand in it; an entry that takes one refuses what is no sheet.
+pub struct Sheet {
+    pub vma: Hundredths,
+    pub voids: Hundredths,
+    pub density: Hundredths,
+    pub composite: Composite,
+    pub verdict: SheetVerdict,
+    pub pay: Cents,
+}
+
+pub enum SheetAnswer {
+    Answers(Sheet),
+    Refused(Refusal),
+}
+
+// An entry in which two sheets differ: which one it is, and the number that each has there.
+pub struct Difference {
+    pub entry: u32,
+    pub first: i64,
+    pub second: i64,
+}
+
+// What is found of a sheet beside ours: it is accepted, or there is a first entry in which the two differ.
+pub enum Finding {
+    Accepted,
+    Differs(Difference),
+}
+
+pub enum CheckAnswer {
+    Answers(Finding),
     Refused(Refusal),
 }

@@ -1,10 +1,12 @@
 // Every entry, for a host in C; include/tulpavice.h declares them. Each is thin: the crates below work everything out.
 use host::limit;
 use host::lot::held_lot;
+use host::sheet::held_sheet;
 use rules::Cents;
 use rules::HundredthTons;
 use rules::Hundredths;
 use rules::Thousandths;
+use rules::host::HostChecked;
 use rules::host::HostDeviation;
 use rules::host::HostListed;
 use rules::host::HostLot;
@@ -15,12 +17,15 @@ use rules::host::HostPercentages;
 use rules::host::HostRead;
 use rules::host::HostRefusal;
 use rules::host::HostRow;
+use rules::host::HostSheet;
 use rules::host::HostWritten;
 ghost use mathlib.Core.Path.{_≡_};
 ghost use Rattle.rules.specs.Lot.{lot-in};
 ghost use Rattle.rules.specs.Notebook.{mean-asked, deviation-asked, pwl-asked};
 ghost use Rattle.rules.specs.Entries.{mean-says, deviation-says, evaluation-says, read-leaves, write-says, after-write, cut-says, after-cut, pay-says, mixture-says};
+ghost use Rattle.rules.specs.Check.{check-says, compare-says, after-compare};
 ghost use Rattle.rules.specs.Host.{host-refusal, host-mean, host-deviation, host-percentages, host-payment, host-mixture-limits, given-lot, given-row, held-lot, host-read, host-written, host-listed, host-row};
+ghost use Rattle.rules.specs.HostSheet.{held-sheet, host-checked};
 
 #[no_mangle]
 pub extern "C" fn tulpavice_mean(readings: &[i32]) -> HostMean
@@ -105,6 +110,39 @@ pub extern "C" fn tulpavice_cut(sublots: usize, out: &mut [u32]) -> HostListed
     ensures { λ r. ⌜ now (out .exit) ≡ after-cut sublots (now (out .entry)) ⌝ }
 {
     host::listed(job::cut(sublots, out))
+}
+
+#[no_mangle]
+pub extern "C" fn tulpavice_check(
+    vma: HostLot,
+    voids: HostLot,
+    density: HostLot,
+    price: i64,
+    quantity: i64,
+    sheet: HostSheet,
+) -> HostChecked
+    ensures { λ r. ⌜ r ≡ host-checked (check-says (lot-in (held-lot vma)) (lot-in (held-lot voids)) (lot-in (held-lot density)) price quantity (held-sheet sheet)) ⌝ }
+{
+    host::sheet::checked(sheets::check(
+        held_lot(vma),
+        held_lot(voids),
+        held_lot(density),
+        Cents(price),
+        HundredthTons(quantity),
+        held_sheet(sheet),
+    ))
+}
+
+#[no_mangle]
+pub extern "C" fn tulpavice_compare(
+    first: HostSheet,
+    second: HostSheet,
+    out: &mut [i64],
+) -> HostListed
+    ensures { λ r. ⌜ r ≡ host-listed (compare-says (held-sheet first) (held-sheet second) (now (out .entry))) ⌝ }
+    ensures { λ r. ⌜ now (out .exit) ≡ after-compare (held-sheet first) (held-sheet second) (now (out .entry)) ⌝ }
+{
+    host::listed(sheets::compare(held_sheet(first), held_sheet(second), out))
 }
 
 #[no_mangle]

@@ -15,10 +15,12 @@ use Rattle.rules.specs.declared.MixtureAnswer.{MixtureAnswer}
 use Rattle.rules.specs.declared.Outcome.{Outcome}
 use Rattle.rules.specs.declared.WriteAnswer.{WriteAnswer}
 use Rattle.rules.specs.declared.ListAnswer.{ListAnswer}
+use Rattle.rules.specs.declared.SheetAnswer.{SheetAnswer}
+use Rattle.rules.specs.declared.CheckAnswer.{CheckAnswer}
 use Rattle.rules.specs.declared.RowAnswer.{RowAnswer}
 use Rattle.rules.specs.Said.{Said, refused, answers}
 use Rattle.rules.specs.Refusals.{number-of}
-use Rattle.rules.specs.Answers.{totals-said, mean-said, deviation-said, evaluation-said, pay-said, mixture-said, outcome-said, ReadSaid, read-said, write-said, list-said, row-said}
+use Rattle.rules.specs.Answers.{totals-said, mean-said, deviation-said, evaluation-said, pay-said, mixture-said, outcome-said, ReadSaid, read-said, write-said, list-said, sheet-said, check-said, row-said}
 
 -- If f x = f y, then x = y.
 abbrev pub Injective : {A B : Type 0} → (A → B) → Type 0
@@ -92,6 +94,16 @@ pub list-injective : Injective list-said
 list-injective =
     read-back list-said (read ListAnswer.Answers ListAnswer.Refused)
     (elim [ ListAnswer.Answers a ↦ refl | ListAnswer.Refused r ↦ refl ])
+
+pub sheet-injective : Injective sheet-said
+sheet-injective =
+    read-back sheet-said (read SheetAnswer.Answers SheetAnswer.Refused)
+    (elim [ SheetAnswer.Answers a ↦ refl | SheetAnswer.Refused r ↦ refl ])
+
+pub check-injective : Injective check-said
+check-injective =
+    read-back check-said (read CheckAnswer.Answers CheckAnswer.Refused)
+    (elim [ CheckAnswer.Answers a ↦ refl | CheckAnswer.Refused r ↦ refl ])
 
 pub row-injective : Injective row-said
 row-injective =

@@ -14,13 +14,17 @@ use Rattle.rules.specs.declared.MixtureAnswer.{MixtureAnswer}
 use Rattle.rules.specs.declared.ReadAnswer.{ReadAnswer}
 use Rattle.rules.specs.declared.WriteAnswer.{WriteAnswer}
 use Rattle.rules.specs.declared.ListAnswer.{ListAnswer}
+use Rattle.rules.specs.declared.Sheet.{Sheet}
+use Rattle.rules.specs.declared.SheetAnswer.{SheetAnswer}
+use Rattle.rules.specs.declared.CheckAnswer.{CheckAnswer}
 use Rattle.rules.specs.declared.Limit.{Limit}
 use Rattle.rules.specs.declared.RowAnswer.{RowAnswer}
 use Rattle.rules.specs.Said.{Said, Case, checked}
 use Rattle.rules.specs.Lot.{Lot}
-use Rattle.rules.specs.Answers.{totals-said, outcome-said, mean-said, deviation-said, evaluation-said, pay-said, mixture-said, read-said, write-said, list-said, row-said}
+use Rattle.rules.specs.Answers.{totals-said, outcome-said, mean-said, deviation-said, evaluation-said, pay-said, mixture-said, read-said, write-said, list-said, sheet-said, check-said, row-said}
 use Rattle.rules.specs.Entries.{mean-says, deviation-says, evaluation-says, pay-says, mixture-says, read-leaves, write-says, after-write, cut-says, after-cut, row-says}
-use Rattle.laws.proofs.Answers.{totals-injective, outcome-injective, mean-injective, deviation-injective, evaluation-injective, pay-injective, mixture-injective, read-injective, write-injective, list-injective, row-injective}
+use Rattle.rules.specs.Check.{ours-says, check-says, compare-says, after-compare}
+use Rattle.laws.proofs.Answers.{totals-injective, outcome-injective, mean-injective, deviation-injective, evaluation-injective, pay-injective, mixture-injective, read-injective, write-injective, list-injective, sheet-injective, check-injective, row-injective}
 
 pub outcome-determined : (cases : List Case) (r q : Outcome) → outcome-said r ≡ checked cases → outcome-said q ≡ checked cases → r ≡ q
 outcome-determined cases r q e f = outcome-injective r q (e ∙ sym f)
@@ -55,6 +59,22 @@ pub cut-determined :
     (list-said r ≡ cut-says sublots out) × (after ≡ after-cut sublots out) → (list-said q ≡ cut-says sublots out) × (other ≡ after-cut sublots out) →
     (r ≡ q) × (after ≡ other)
 cut-determined sublots out r q after other e f = (list-injective r q (e .0 ∙ sym (f .0)), e .1 ∙ sym (f .1))
+
+pub check-determined :
+    (vma voids density : Lot) (price quantity : ℤ) (sheet : Sheet) (r q : CheckAnswer) →
+    check-said r ≡ check-says vma voids density price quantity sheet → check-said q ≡ check-says vma voids density price quantity sheet → r ≡ q
+check-determined vma voids density price quantity sheet r q e f = check-injective r q (e ∙ sym f)
+
+pub ours-determined :
+    (vma voids density : Lot) (price quantity : ℤ) (r q : SheetAnswer) →
+    sheet-said r ≡ ours-says vma voids density price quantity → sheet-said q ≡ ours-says vma voids density price quantity → r ≡ q
+ours-determined vma voids density price quantity r q e f = sheet-injective r q (e ∙ sym f)
+
+pub compare-determined :
+    (a b : Sheet) (out : List ℤ) (r q : ListAnswer) (after other : List ℤ) →
+    (list-said r ≡ compare-says a b out) × (after ≡ after-compare a b out) → (list-said q ≡ compare-says a b out) × (other ≡ after-compare a b out) →
+    (r ≡ q) × (after ≡ other)
+compare-determined a b out r q after other e f = (list-injective r q (e .0 ∙ sym (f .0)), e .1 ∙ sym (f .1))
 
 pub pay-determined :
     (vma voids density price quantity : ℤ) (r q : PayAnswer) →

@@ -1,17 +1,35 @@
 -- The differences of two lists of numbers, an entry at a time, as a loop goes through them.
 use mathlib.Core.Path.{_≡_, refl, sym, ap, ap₂, _∙_}
-use mathlib.Core.Bool.{Bool, true, false, cond}
+use mathlib.Core.Bool.{Bool, true, false, cond, or-comm, true≢false}
 use mathlib.Core.List.{List, [], _∷_, _++_}
 use Prim.Native.Nat.{ℕ, zero, suc, _+_, _*_, _≤_, _<_}
 use native.Mathlib.Omega.{arith}
 use lib.IntN.{ℤ, pos, _-ℤ_}
 use lib.ListN.{length, take, drop, getD, set, length-drop}
+use lib.Signed.{ltZ, ≤ℤ-refl}
 use lib.Seq.{take-all, drop-cons, drop-length}
 use Rattle.rules.specs.declared.Difference.{Difference}
 use Rattle.rules.specs.declared.Finding.{Finding}
 use Rattle.rules.specs.Sheet.{differ, differing, first-of, difference-numbers}
+use Rattle.integers.proofs.Order.{≤ℤ-antisym, le-ltZ, ltZ-false}
 use Rattle.laws.specs.Sheet.{Passed}
+use Rattle.laws.proofs.Tests.{neither}
 use Rattle.laws.proofs.Lists.{filled-two}
+
+-- ---- whether two numbers differ
+
+pub differ-true : (x y : ℤ) → differ x y ≡ true → ¬ (x ≡ y)
+differ-true x y d e = true≢false (sym d ∙ ap (differ x) (sym e) ∙ rw (le-ltZ (≤ℤ-refl x)))
+
+pub differ-false : (x y : ℤ) → differ x y ≡ false → x ≡ y
+differ-false x y d =
+    let h = neither (ltZ x y) (ltZ y x) d in
+    ≤ℤ-antisym (ltZ-false y x (h .1)) (ltZ-false x y (h .0))
+
+pub differ-turned : (x y : ℤ) → differ y x ≡ differ x y
+differ-turned x y = or-comm (ltZ y x) (ltZ x y)
+
+-- ---- an entry at a time
 
 pub length-differences : (ds : List Difference) → length (difference-numbers ds) ≡ 2 * length ds
 unfolding difference-numbers

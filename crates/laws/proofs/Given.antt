@@ -8,6 +8,7 @@ use Rattle.rules.specs.declared.Percentages.{Percentages}
 use Rattle.rules.specs.declared.Payment.{Payment}
 use Rattle.rules.specs.declared.MixtureLimits.{MixtureLimits}
 use Rattle.rules.specs.declared.Row.{Row}
+use Rattle.rules.specs.declared.Finding.{Finding}
 use Rattle.rules.specs.declared.Refusal.{Refusal}
 use Rattle.rules.specs.declared.Refusal.the-variants.{Size, Version, Flags, Count, Range, Unlimited, Crossed, Room, Number, NoColumn}
 use Rattle.rules.specs.declared.host.HostRefusal.{HostRefusal}
@@ -19,6 +20,7 @@ use Rattle.rules.specs.declared.host.HostMixtureLimits.{HostMixtureLimits}
 use Rattle.rules.specs.declared.host.HostRead.{HostRead}
 use Rattle.rules.specs.declared.host.HostWritten.{HostWritten}
 use Rattle.rules.specs.declared.host.HostListed.{HostListed}
+use Rattle.rules.specs.declared.host.HostChecked.{HostChecked}
 use Rattle.rules.specs.declared.host.HostRow.{HostRow}
 use Rattle.rules.specs.Units.{thousandths}
 use Rattle.rules.specs.Said.{Said, refused, answers}
@@ -26,6 +28,8 @@ use Rattle.rules.specs.Lot.{Lot}
 use Rattle.rules.specs.Refusals.{number-of}
 use Rattle.rules.specs.Entries.{beside}
 use Rattle.rules.specs.Host.{refusal-part, no-refusal, host-refusal, host-mean, host-deviation, host-percentages, host-payment, host-mixture-limits, host-read, host-written, host-listed, host-row}
+use Rattle.rules.specs.HostSheet.{host-found, host-checked}
+use Rattle.laws.specs.Sheet.{given-finding}
 use Rattle.laws.specs.Given.{ZeroWhenAnswered, given-percentages, given-row-of}
 
 -- No refusal has the number 0.
@@ -59,6 +63,10 @@ module _ {A H : Type 0} (host : Said A → H) (part : H → HostRefusal) (refusa
 
 -- ---- each of C's answers
 
+checked-begins : (f : Finding) → host-found f .refusal ≡ no-refusal
+checked-begins Finding.Accepted = refl
+checked-begins (Finding.Differs d) = refl
+
 pub zero-in-mean : (said : Said Mean) (r : HostMean) → r ≡ host-mean said → ZeroWhenAnswered (r .refusal) said
 zero-in-mean = zero-if-answered host-mean (λ (r : HostMean). r .refusal) (λ r. refl) (λ a. refl)
 
@@ -79,6 +87,9 @@ zero-in-written = zero-if-answered host-written (λ (r : HostWritten). r .refusa
 
 pub zero-in-listed : (said : Said ℕ) (r : HostListed) → r ≡ host-listed said → ZeroWhenAnswered (r .refusal) said
 zero-in-listed = zero-if-answered host-listed (λ (r : HostListed). r .refusal) (λ r. refl) (λ a. refl)
+
+pub zero-in-checked : (said : Said Finding) (r : HostChecked) → r ≡ host-checked said → ZeroWhenAnswered (r .refusal) said
+zero-in-checked = zero-if-answered host-checked (λ (r : HostChecked). r .refusal) (λ r. refl) checked-begins
 
 pub zero-in-row : (said : Said Row) (r : HostRow) → r ≡ host-row said → ZeroWhenAnswered (r .refusal) said
 zero-in-row = zero-if-answered host-row (λ (r : HostRow). r .refusal) (λ r. refl) (λ a. refl)
@@ -122,6 +133,15 @@ pub listed-given : (said : Said ℕ) (r : HostListed) → r ≡ host-listed said
 listed-given said r e z =
     let h = given host-listed (λ (x : HostListed). x .refusal) (λ x. refl) (λ a. refl) said r e z in
     h .1 ∙ ap (λ (x : HostListed). answers (x .items)) (sym (h .2))
+
+pub checked-given : (said : Said Finding) (r : HostChecked) → r ≡ host-checked said → r .refusal .number ≡ 0 → said ≡ answers (given-finding r)
+checked-given said r e z =
+    let h = given host-checked (λ (x : HostChecked). x .refusal) (λ x. refl) checked-begins said r e z in
+    h .1 ∙ ap (λ (f : Finding). answers f) (by (h .0)) ∙ ap (λ (x : HostChecked). answers (given-finding x)) (sym (h .2))
+  where
+    by : (f : Finding) → f ≡ given-finding (host-checked (answers f))
+    by Finding.Accepted = refl
+    by (Finding.Differs d) = refl
 
 pub payment-given :
     (said : Said Payment) (r : HostPayment) → r ≡ host-payment said → r .refusal .number ≡ 0 →

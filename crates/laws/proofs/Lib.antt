@@ -63,6 +63,8 @@ pub mod Differences
 pub mod OurSheet
 pub mod SheetTaken
 pub mod CompareAnswers
+pub mod Sheets
+pub mod CheckAnswers
 pub mod DeskJob
 pub mod Spelled
 pub mod Words

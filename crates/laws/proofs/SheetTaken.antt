@@ -1,17 +1,25 @@
--- A sheet is refused exactly when an entry is below 0 or above 1,000,000,000,000,000, or its verdict is neither 0 nor 1.
+-- A sheet is refused exactly when an entry is below 0 or above 1,000,000,000,000,000, or its verdict is neither 0 nor 1; and ours never is.
 use mathlib.Core.Path.{_≡_, refl}
 use mathlib.Core.Bool.{Bool, true, false, _||_}
-use Prim.Native.Nat.{ℕ, zero, suc, _≤_}
+use Prim.Native.Nat.{ℕ, zero, suc, _+_, _*_, _≤_}
+use native.Mathlib.Nat.{mul-le-mul}
 use native.Mathlib.Omega.{arith}
-use lib.IntN.{ℤ, pos, natAbs}
+use lib.IntN.{ℤ, pos, negsuc, natAbs}
+use lib.Signed.{leZ-yes}
 use lib.ListN.{getD}
+use Rattle.integers.proofs.Order.{≤ℤ-trans, pos-mono}
+use Rattle.integers.proofs.Division.{quotZ-mono}
+use Rattle.rules.specs.declared.Verdict.{Verdict}
 use Rattle.rules.specs.declared.Sheet.{Sheet}
-use Rattle.rules.specs.Sheet.{sheet-numbers}
+use Rattle.rules.specs.Pay.{final-pay, payment}
+use Rattle.rules.specs.Sheet.{verdict-number, sheet-numbers, sheet-of}
 use Rattle.rules.specs.Refusals.{outside, greatest-entry, sheet-case}
 use Rattle.laws.specs.Between.{Between}
+use Rattle.laws.specs.Payable.{Priced, Payable}
 use Rattle.laws.specs.Sheet.{SheetTaken, Entered}
 use Rattle.laws.proofs.Tests.{neither}
 use Rattle.laws.proofs.Between.{inside, not-outside, between-magnitude}
+use Rattle.laws.proofs.Composite.{composite-lies-between}
 
 module _ (s : Sheet) where
   pub sheet-is-taken : sheet-case s .applies ≡ false → SheetTaken s
@@ -59,3 +67,39 @@ module _ (s : Sheet) where
       at (suc (suc (suc (suc zero)))) = omega (arith, between-magnitude (h .verdict))
       at (suc (suc (suc (suc (suc zero))))) = between-magnitude (h .pay)
       at (suc (suc (suc (suc (suc (suc k)))))) = omega arith
+
+-- ---- the sheet that our rules give is taken
+
+wider-between : {least greatest : ℕ} {z : ℤ} (low high : ℕ) → low ≤ least → greatest ≤ high → Between (pos least) (pos greatest) z → Between (pos low) (pos high) z
+wider-between low high h k b = record { low = ≤ℤ-trans (pos-mono h) (b .low); high = ≤ℤ-trans (b .high) (pos-mono k) }
+
+-- No more is paid than 10,000,000 × 100,000,000 × 1,030 over 100,000.
+pub final-pay-lies-between : {p q c : ℤ} → Priced p q c → Between (pos 0) (pos 10300000000000) (final-pay p q c)
+unfolding final-pay
+final-pay-lies-between {p = pos p} {q = pos q} {c = pos c} h =
+    let whole : p * q ≤ 1000000000000000 = mul-le-mul (between-magnitude (h .price)) (between-magnitude (h .quantity)) in
+    let paid : p * q * c ≤ 1030000000000000000 = mul-le-mul whole (between-magnitude (h .composite)) in
+    record {
+      low = quotZ-mono 100000 {x = pos 0} {y = pos (p * q * c + 50000)} (pos-mono (omega arith));
+      high = quotZ-mono 100000 {x = pos (p * q * c + 50000)} {y = pos 1030000000000050000} (pos-mono (omega arith));
+    }
+final-pay-lies-between {p = pos p} {q = pos q} {c = negsuc c} h = absurd (h .composite .low .le)
+final-pay-lies-between {p = pos p} {q = negsuc q} h = absurd (h .quantity .low .le)
+final-pay-lies-between {p = negsuc p} h = absurd (h .price .low .le)
+
+verdict-lies-between : (v : Verdict) → Between (pos 0) (pos 1) (pos (verdict-number v))
+verdict-lies-between Verdict.Accepted = record { low = leZ-yes tt; high = leZ-yes tt }
+verdict-lies-between Verdict.Rejected = record { low = leZ-yes tt; high = leZ-yes tt }
+
+pub paid-sheet-is-taken : {a b c p q : ℤ} → Payable a b c p q → SheetTaken (sheet-of a b c (payment a b c p q))
+unfolding payment
+paid-sheet-is-taken {a} {b} {c} {p} {q} h =
+    let between = composite-lies-between (h .percents) in
+    record {
+      vma = wider-between 0 1000000000000000 (omega arith) (omega arith) (h .percents .vma);
+      voids = wider-between 0 1000000000000000 (omega arith) (omega arith) (h .percents .voids);
+      density = wider-between 0 1000000000000000 (omega arith) (omega arith) (h .percents .density);
+      composite = wider-between 0 1000000000000000 (omega arith) (omega arith) between;
+      verdict = verdict-lies-between (payment a b c p q .lot);
+      pay = wider-between 0 1000000000000000 (omega arith) (omega arith) (final-pay-lies-between (record { price = h .price; quantity = h .quantity; composite = between }));
+    }

@@ -1,14 +1,22 @@
 -- What document 02 says of pay sheets.
 use mathlib.Core.Path.{_≡_}
+use mathlib.Core.Bool.{cond}
 use mathlib.Core.List.{List, [], _∷_}
 use Prim.Native.Nat.{ℕ, suc, _≤_, _<_}
-use lib.IntN.{ℤ, pos, natAbs}
+use lib.Dec.{eqb}
+use lib.IntN.{ℤ, pos, negℤ, natAbs, _-ℤ_}
 use lib.ListN.{length, drop, getD}
+use Rattle.rules.specs.declared.Percentages.{Percentages}
+use Rattle.rules.specs.declared.Payment.{Payment}
 use Rattle.rules.specs.declared.Sheet.{Sheet}
 use Rattle.rules.specs.declared.Difference.{Difference}
 use Rattle.rules.specs.declared.Finding.{Finding}
-use Rattle.rules.specs.Sheet.{sheet-numbers, differing}
+use Rattle.rules.specs.declared.host.HostChecked.{HostChecked}
+use Rattle.rules.specs.Said.{answers}
+use Rattle.rules.specs.Lot.{Lot}
+use Rattle.rules.specs.Sheet.{sheet-numbers, sheet-of, differing}
 use Rattle.rules.specs.Refusals.{greatest-entry}
+use Rattle.rules.specs.Entries.{evaluation-says, pay-says}
 use Rattle.laws.specs.Between.{Between}
 
 -- ---- one sheet
@@ -57,6 +65,37 @@ InOrder k (d ∷ ds) = (k ≤ d .entry) × InOrder (suc (d .entry)) ds
 -- the same difference, of the sheets exchanged
 abbrev pub turned : Difference → Difference
 turned d = record { entry = d .entry; first = d .second; second = d .first }
+
+-- a list of entries and differences, two numbers to an item, with the sign of each difference turned
+unfoldable pub all-turned : List ℤ → List ℤ
+all-turned [] = []
+all-turned (entry ∷ []) = entry ∷ []
+all-turned (entry ∷ difference ∷ rest) = entry ∷ negℤ difference ∷ all-turned rest
+
+-- ---- our own sheet, and a check
+
+-- The sheet that our own entries give for three lots, a price and a quantity: the PWL that evaluation answers for each lot, and the composite, the
+-- verdict on the lot and the pay that pay answers for these.
+pub record IsOurs (vma voids density : Lot) (price quantity : ℤ) (ours : Sheet) : Type 0 where
+  pub of-vma : Percentages
+  pub of-voids : Percentages
+  pub of-density : Percentages
+  pub vma-answered : evaluation-says vma ≡ answers of-vma
+  pub voids-answered : evaluation-says voids ≡ answers of-voids
+  pub density-answered : evaluation-says density ≡ answers of-density
+  pub settled : Payment
+  pub paid : pay-says (of-vma .pwl .0) (of-voids .pwl .0) (of-density .pwl .0) price quantity ≡ answers settled
+  pub same : ours ≡ sheet-of (of-vma .pwl .0) (of-voids .pwl .0) (of-density .pwl .0) settled
+
+-- What a check finds, as a comparison with our own sheet lists it: nothing, or the first item.
+abbrev pub AsCompared : Finding → ℕ → List ℤ → Type 0
+AsCompared Finding.Accepted items after = items ≡ 0
+AsCompared (Finding.Differs d) items after =
+    (1 ≤ items) × (getD after 0 (pos 0) ≡ pos (d .entry)) × (getD after 1 (pos 0) ≡ d .first -ℤ d .second)
+
+-- C's numbers as what is found
+abbrev pub given-finding : HostChecked → Finding
+given-finding r = cond (eqb (r .accepted) 1) Finding.Accepted (Finding.Differs (record { entry = r .entry; first = r .sheet; second = r .ours }))
 
 -- ---- two lists of numbers, as a loop goes through them
 

@@ -1,0 +1,199 @@
+-- The check of a sheet accepts our own and no other, names the first entry that differs, and is refused in its order and for nothing else.
+use mathlib.Core.Path.{_≡_, refl, sym, ap, subst, _∙_}
+use mathlib.Core.Bool.{Bool, true, false}
+use mathlib.Core.List.{List, [], _∷_, _++_}
+use mathlib.Core.Logic.{_↔_}
+use Prim.Native.Nat.{ℕ}
+use native.Mathlib.Omega.{arith}
+use lib.IntN.{ℤ}
+use lib.ListN.{length, drop}
+use Rattle.rules.specs.declared.Percentages.{Percentages}
+use Rattle.rules.specs.declared.Payment.{Payment}
+use Rattle.rules.specs.declared.Sheet.{Sheet}
+use Rattle.rules.specs.declared.Difference.{Difference}
+use Rattle.rules.specs.declared.Finding.{Finding}
+use Rattle.rules.specs.declared.CheckAnswer.{CheckAnswer}
+use Rattle.rules.specs.declared.ListAnswer.{ListAnswer}
+use Rattle.rules.specs.declared.host.HostChecked.{HostChecked}
+use Rattle.rules.specs.declared.Refusal.{Refusal}
+use Rattle.rules.specs.declared.Refusal.the-variants.{Number}
+use Rattle.rules.specs.Said.{Said, refused, answers}
+use Rattle.rules.specs.Lot.{Lot}
+use Rattle.rules.specs.Pay.{payment}
+use Rattle.rules.specs.Sheet.{sheet-of, differences, first-of, difference-numbers}
+use Rattle.rules.specs.Refusals.{sheet-case}
+use Rattle.rules.specs.Answers.{check-said, list-said}
+use Rattle.rules.specs.Entries.{evaluation-says, pay-says, written}
+use Rattle.rules.specs.Check.{ours-says, check-says, compare-says, after-compare}
+use Rattle.rules.specs.HostSheet.{host-checked}
+use Rattle.laws.specs.Payable.{Payable}
+use Rattle.laws.specs.Sheet.{SheetTaken, Found, IsOurs, AsCompared, given-finding}
+use Rattle.laws.proofs.Ruled.{ruled-answers}
+use Rattle.laws.proofs.Payable.{payable, not-payable-is-refused}
+use Rattle.laws.proofs.OurSheet.{first-lot-refused, second-lot-refused, third-lot-refused, lots-answered, ours-refused, unfit-is-refused, sheet-is-found, unpaid-sheet, paid-sheet}
+use Rattle.laws.proofs.SheetTaken.{sheet-is-taken, taken-is-no-case, untaken-is-a-case, paid-sheet-is-taken}
+use Rattle.laws.proofs.Sheets.{finding-is-found, found-determined}
+use Rattle.laws.proofs.Given.{checked-given}
+
+-- What is said is a refusal or values, and not both.
+unlike : {A : Type 0} {r : Refusal} {a : A} {s : Said A} → s ≡ refused r → s ≡ answers a → ⊥
+unlike {A} {r} {a} e f = let h : refused r ≡ answers a = sym e ∙ f in let z : _≡_ {A = ℕ} 0 1 = cc in omega arith
+
+abbrev value : {A : Type 0} → A → Said A → A
+value other (refused r) = other
+value other (answers a) = a
+
+module _ (vma voids density : Lot) (price quantity : ℤ) where
+  abbrev ours-said : Said Sheet
+  ours-said = ours-says vma voids density price quantity
+
+  -- ---- our own sheet
+
+  pub ours-is-answered : {ours : Sheet} → IsOurs vma voids density price quantity ours → ours-said ≡ answers ours
+  ours-is-answered h =
+      lots-answered vma voids density price quantity (h .vma-answered) (h .voids-answered) (h .density-answered)
+      ∙ paid-sheet _ _ _ price quantity (h .paid)
+      ∙ ap (λ (sheet : Sheet). answers sheet) (sym (h .same))
+
+  pub answered-is-ours : {ours : Sheet} → ours-said ≡ answers ours → IsOurs vma voids density price quantity ours
+  answered-is-ours {ours} e = first (evaluation-says vma) refl
+    where
+      paid : (p q s : Percentages) → evaluation-says vma ≡ answers p → evaluation-says voids ≡ answers q → evaluation-says density ≡ answers s → (said : Said Payment) → pay-says (p .pwl .0) (q .pwl .0) (s .pwl .0) price quantity ≡ said → IsOurs vma voids density price quantity ours
+      paid p q s a b c (refused r) f = absurd (unlike (lots-answered vma voids density price quantity a b c ∙ unpaid-sheet _ _ _ _ _ f) e)
+      paid p q s a b c (answers z) f =
+          record {
+            of-vma = p;
+            of-voids = q;
+            of-density = s;
+            vma-answered = a;
+            voids-answered = b;
+            density-answered = c;
+            settled = z;
+            paid = f;
+            same = ap (value ours) (sym e ∙ lots-answered vma voids density price quantity a b c ∙ paid-sheet _ _ _ _ _ f);
+          }
+
+      third : (p q : Percentages) → evaluation-says vma ≡ answers p → evaluation-says voids ≡ answers q → (said : Said Percentages) → evaluation-says density ≡ said → IsOurs vma voids density price quantity ours
+      third p q a b (refused r) f = absurd (unlike (third-lot-refused vma voids density price quantity a b f) e)
+      third p q a b (answers s) f = paid p q s a b f (pay-says (p .pwl .0) (q .pwl .0) (s .pwl .0) price quantity) refl
+
+      second : (p : Percentages) → evaluation-says vma ≡ answers p → (said : Said Percentages) → evaluation-says voids ≡ said → IsOurs vma voids density price quantity ours
+      second p a (refused r) f = absurd (unlike (second-lot-refused vma voids density price quantity a f) e)
+      second p a (answers q) f = third p q a f (evaluation-says density) refl
+
+      first : (said : Said Percentages) → evaluation-says vma ≡ said → IsOurs vma voids density price quantity ours
+      first (refused r) f = absurd (unlike (first-lot-refused vma voids density price quantity f) e)
+      first (answers p) f = second p f (evaluation-says voids) refl
+
+  -- It is never refused.
+  pub ours-is-taken : {ours : Sheet} → IsOurs vma voids density price quantity ours → SheetTaken ours
+  unfolding pay-says
+  ours-is-taken h =
+      let r = ruled-answers _ (payment (h .of-vma .pwl .0) (h .of-voids .pwl .0) (h .of-density .pwl .0) price quantity) _ (h .paid) in
+      let taken = paid-sheet-is-taken (payable _ _ _ _ _ (r .0)) in
+      subst SheetTaken (ap (sheet-of (h .of-vma .pwl .0) (h .of-voids .pwl .0) (h .of-density .pwl .0)) (r .1) ∙ sym (h .same)) taken
+
+  module _ (sheet : Sheet) where
+    -- ---- what is found
+
+    -- A sheet that is taken gets the finding that document 02 asks for,
+    pub check-is-answered : {ours : Sheet} → IsOurs vma voids density price quantity ours → SheetTaken sheet → (f : Finding) → Found sheet ours f → check-says vma voids density price quantity sheet ≡ answers f
+    check-is-answered {ours} h taken f found =
+        sheet-is-found vma voids density price quantity sheet (ours-is-answered h) (taken-is-no-case sheet taken)
+        ∙ ap (λ (g : Finding). answers g) (found-determined sheet ours _ f (finding-is-found sheet ours) found)
+
+    -- and whatever is answered is that finding.
+    pub answer-is-found :
+        (f : Finding) → check-said (CheckAnswer.Answers f) ≡ check-says vma voids density price quantity sheet →
+        (ours : Sheet) × IsOurs vma voids density price quantity ours × SheetTaken sheet × Found sheet ours f
+    answer-is-found f e = by ours-said refl
+      where
+        met : (ours : Sheet) → ours-said ≡ answers ours → (b : Bool) → sheet-case sheet .applies ≡ b → (ours : Sheet) × IsOurs vma voids density price quantity ours × SheetTaken sheet × Found sheet ours f
+        met ours g true k = absurd (unlike (unfit-is-refused vma voids density price quantity sheet g k) (sym e))
+        met ours g false k =
+            let is : first-of (differences sheet ours) ≡ f = ap (value f) (sym (sheet-is-found vma voids density price quantity sheet g k) ∙ sym e) in
+            (ours, answered-is-ours g, sheet-is-taken sheet k, subst (Found sheet ours) is (finding-is-found sheet ours))
+
+        by : (said : Said Sheet) → ours-said ≡ said → (ours : Sheet) × IsOurs vma voids density price quantity ours × SheetTaken sheet × Found sheet ours f
+        by (refused r) g = absurd (unlike (ours-refused vma voids density price quantity sheet g) (sym e))
+        by (answers ours) g = met ours g (sheet-case sheet .applies) refl
+
+    -- So our own sheet is accepted, and no other is.
+    pub accepted-exactly-ours : (check-says vma voids density price quantity sheet ≡ answers Finding.Accepted) ↔ IsOurs vma voids density price quantity sheet
+    accepted-exactly-ours =
+        (
+          λ e. let h = answer-is-found Finding.Accepted (sym e) in subst (IsOurs vma voids density price quantity) (sym (h .3)) (h .1),
+          λ h. check-is-answered h (ours-is-taken h) Finding.Accepted refl,
+        )
+
+    -- ---- refusals, in their order
+
+    pub first-lot-comes-first : {r : Refusal} → evaluation-says vma ≡ refused r → check-says vma voids density price quantity sheet ≡ refused r
+    first-lot-comes-first e = ours-refused vma voids density price quantity sheet (first-lot-refused vma voids density price quantity e)
+
+    module _ {p : Percentages} (a : evaluation-says vma ≡ answers p) where
+      pub second-lot-comes-next : {r : Refusal} → evaluation-says voids ≡ refused r → check-says vma voids density price quantity sheet ≡ refused r
+      second-lot-comes-next e = ours-refused vma voids density price quantity sheet (second-lot-refused vma voids density price quantity a e)
+
+      module _ {q : Percentages} (b : evaluation-says voids ≡ answers q) where
+        pub third-lot-comes-then : {r : Refusal} → evaluation-says density ≡ refused r → check-says vma voids density price quantity sheet ≡ refused r
+        third-lot-comes-then e = ours-refused vma voids density price quantity sheet (third-lot-refused vma voids density price quantity a b e)
+
+        -- a price or a quantity that pay does not take, where it takes the PWLs of all lots
+        pub price-and-quantity-follow :
+            {s : Percentages} → evaluation-says density ≡ answers s → ¬ Payable (p .pwl .0) (q .pwl .0) (s .pwl .0) price quantity →
+            check-says vma voids density price quantity sheet ≡ refused Number
+        price-and-quantity-follow c e =
+            ours-refused vma voids density price quantity sheet (lots-answered vma voids density price quantity a b c ∙ unpaid-sheet _ _ _ _ _ (not-payable-is-refused _ _ _ _ _ e))
+
+    pub sheet-comes-last : {ours : Sheet} → IsOurs vma voids density price quantity ours → ¬ SheetTaken sheet → check-says vma voids density price quantity sheet ≡ refused Number
+    sheet-comes-last h bad = unfit-is-refused vma voids density price quantity sheet (ours-is-answered h) (untaken-is-a-case sheet bad)
+
+-- ---- the check as a comparison with our own sheet
+
+first-compared : (ds : List Difference) (out : List ℤ) → AsCompared (first-of ds) (length ds) (difference-numbers ds ++ out)
+unfolding first-of difference-numbers
+first-compared [] out = refl
+first-compared (d ∷ ds) out = (omega arith, refl, refl)
+
+-- What is found is what the comparison of the sheet with ours lists first, for any list that is not too short.
+pub check-is-a-comparison :
+    (vma voids density : Lot) (price quantity : ℤ) (sheet ours : Sheet) (f : Finding) (items : ℕ) (out after : List ℤ) →
+    IsOurs vma voids density price quantity ours →
+    check-said (CheckAnswer.Answers f) ≡ check-says vma voids density price quantity sheet →
+    list-said (ListAnswer.Answers items) ≡ compare-says sheet ours out → after ≡ after-compare sheet ours out →
+    AsCompared f items after
+unfolding compare-says written
+check-is-a-comparison vma voids density price quantity sheet ours f items out after h e g k =
+    let found = answer-is-found vma voids density price quantity sheet f e in
+    let said = sheet-is-found vma voids density price quantity sheet (ours-is-answered vma voids density price quantity h) (taken-is-no-case sheet (found .2)) in
+    let finding : first-of (differences sheet ours) ≡ f = ap (value f) (sym said ∙ sym e) in
+    let count : length (differences sheet ours) ≡ items = ruled-answers _ _ _ (sym g) .1 in
+    let list : after ≡ difference-numbers (differences sheet ours) ++ drop (length (difference-numbers (differences sheet ours))) out = k ∙ ap (written (difference-numbers (differences sheet ours)) out) (sym g) in
+    rw (list, ← count, ← finding) (first-compared (differences sheet ours) _)
+
+-- ---- what C is given
+
+-- A sheet is given as accepted exactly where it is ours, refusals included: 1 is never given beside one.
+pub given-accepted-exactly-ours :
+    (vma voids density : Lot) (price quantity : ℤ) (sheet : Sheet) (r : HostChecked) →
+    r ≡ host-checked (check-says vma voids density price quantity sheet) →
+    (r .accepted ≡ 1) ↔ IsOurs vma voids density price quantity sheet
+given-accepted-exactly-ours vma voids density price quantity sheet r e =
+    let exactly = accepted-exactly-ours vma voids density price quantity sheet in
+    (
+      λ one. exactly .0 (by (check-says vma voids density price quantity sheet) (sym (ap (λ (x : HostChecked). x .accepted) e) ∙ one)),
+      λ ours. ap (λ (x : HostChecked). x .accepted) e ∙ ap (λ (said : Said Finding). host-checked said .accepted) (exactly .1 ours),
+    )
+  where
+    by : (said : Said Finding) → host-checked said .accepted ≡ 1 → said ≡ answers Finding.Accepted
+    by (refused q) one = absurd (omega arith)
+    by (answers Finding.Accepted) one = refl
+    by (answers (Finding.Differs d)) one = absurd (omega arith)
+
+-- And where C is given no refusal, its numbers are what is found.
+pub given-check-is-found :
+    (vma voids density : Lot) (price quantity : ℤ) (sheet : Sheet) (r : HostChecked) →
+    r ≡ host-checked (check-says vma voids density price quantity sheet) → r .refusal .number ≡ 0 →
+    (ours : Sheet) × IsOurs vma voids density price quantity ours × SheetTaken sheet × Found sheet ours (given-finding r)
+given-check-is-found vma voids density price quantity sheet r e z = answer-is-found vma voids density price quantity sheet (given-finding r) (sym (checked-given _ r e z))

@@ -120,11 +120,10 @@ module _ (vma voids density : Lot) (price quantity : ℤ) where
 
     -- So our own sheet is accepted, and no other is.
     pub accepted-exactly-ours : (check-says vma voids density price quantity sheet ≡ answers Finding.Accepted) ↔ IsOurs vma voids density price quantity sheet
-    accepted-exactly-ours =
-        (
-          λ e. let h = answer-is-found Finding.Accepted (sym e) in subst (IsOurs vma voids density price quantity) (sym (h .3)) (h .1),
-          λ h. check-is-answered h (ours-is-taken h) Finding.Accepted refl,
-        )
+    accepted-exactly-ours = (
+      λ e. let h = answer-is-found Finding.Accepted (sym e) in subst (IsOurs vma voids density price quantity) (sym (h .3)) (h .1),
+      λ h. check-is-answered h (ours-is-taken h) Finding.Accepted refl,
+    )
 
     -- ---- refusals, in their order
 
@@ -180,8 +179,7 @@ pub given-accepted-exactly-ours :
     r ≡ host-checked (check-says vma voids density price quantity sheet) →
     (r .accepted ≡ 1) ↔ IsOurs vma voids density price quantity sheet
 given-accepted-exactly-ours vma voids density price quantity sheet r e =
-    let exactly = accepted-exactly-ours vma voids density price quantity sheet in
-    (
+    let exactly = accepted-exactly-ours vma voids density price quantity sheet in (
       λ one. exactly .0 (by (check-says vma voids density price quantity sheet) (sym (ap (λ (x : HostChecked). x .accepted) e) ∙ one)),
       λ ours. ap (λ (x : HostChecked). x .accepted) e ∙ ap (λ (said : Said Finding). host-checked said .accepted) (exactly .1 ours),
     )

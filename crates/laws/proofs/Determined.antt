@@ -60,21 +60,23 @@ pub cut-determined :
     (r ≡ q) × (after ≡ other)
 cut-determined sublots out r q after other e f = (list-injective r q (e .0 ∙ sym (f .0)), e .1 ∙ sym (f .1))
 
-pub check-determined :
-    (vma voids density : Lot) (price quantity : ℤ) (sheet : Sheet) (r q : CheckAnswer) →
-    check-said r ≡ check-says vma voids density price quantity sheet → check-said q ≡ check-says vma voids density price quantity sheet → r ≡ q
-check-determined vma voids density price quantity sheet r q e f = check-injective r q (e ∙ sym f)
-
-pub ours-determined :
-    (vma voids density : Lot) (price quantity : ℤ) (r q : SheetAnswer) →
-    sheet-said r ≡ ours-says vma voids density price quantity → sheet-said q ≡ ours-says vma voids density price quantity → r ≡ q
-ours-determined vma voids density price quantity r q e f = sheet-injective r q (e ∙ sym f)
-
+-- So does the promise of a comparison.
 pub compare-determined :
     (a b : Sheet) (out : List ℤ) (r q : ListAnswer) (after other : List ℤ) →
     (list-said r ≡ compare-says a b out) × (after ≡ after-compare a b out) → (list-said q ≡ compare-says a b out) × (other ≡ after-compare a b out) →
     (r ≡ q) × (after ≡ other)
 compare-determined a b out r q after other e f = (list-injective r q (e .0 ∙ sym (f .0)), e .1 ∙ sym (f .1))
+
+pub check-determined :
+    (vma voids density : Lot) (price quantity : ℤ) (sheet : Sheet) (r q : CheckAnswer) →
+    check-said r ≡ check-says vma voids density price quantity sheet → check-said q ≡ check-says vma voids density price quantity sheet → r ≡ q
+check-determined vma voids density price quantity sheet r q e f = check-injective r q (e ∙ sym f)
+
+-- of our own sheet, which a check holds the other against
+pub ours-determined :
+    (vma voids density : Lot) (price quantity : ℤ) (r q : SheetAnswer) →
+    sheet-said r ≡ ours-says vma voids density price quantity → sheet-said q ≡ ours-says vma voids density price quantity → r ≡ q
+ours-determined vma voids density price quantity r q e f = sheet-injective r q (e ∙ sym f)
 
 pub pay-determined :
     (vma voids density price quantity : ℤ) (r q : PayAnswer) →

@@ -62,9 +62,10 @@ pub mod JobAnswers
 pub mod Differences
 pub mod OurSheet
 pub mod SheetTaken
-pub mod CompareAnswers
 pub mod Sheets
+pub mod CompareAnswers
 pub mod CheckAnswers
+pub mod DeskSheet
 pub mod DeskJob
 pub mod Spelled
 pub mod Words

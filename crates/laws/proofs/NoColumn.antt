@@ -9,6 +9,7 @@ use lib.Dec.{T, leb, eqb}
 use lib.IntN.{ℤ}
 use Rattle.rules.specs.declared.Limit.{Limit}
 use Rattle.rules.specs.declared.Percentages.{Percentages}
+use Rattle.rules.specs.declared.Sheet.{Sheet}
 use Rattle.rules.specs.declared.Refusal.{Refusal}
 use Rattle.rules.specs.declared.Refusal.the-variants.{NoColumn}
 use Rattle.rules.specs.Said.{Said, Case, refused, answers, checked, ruled}
@@ -19,6 +20,7 @@ use Rattle.rules.specs.Refusals.{number-of}
 use Rattle.rules.specs.Notebook.{lent-lot}
 use Rattle.rules.specs.Meets.{readings-meet, counted-meets, column-meets, evaluation-meets, bytes-meet, row-meets, read-meets, write-meets, pay-meets, mixture-meets, cut-meets}
 use Rattle.rules.specs.Entries.{mean-says, deviation-says, column-for, percentages, evaluated, bare, evaluation-says, read-says, write-says, pay-says, mixture-says, cut-says, row-says}
+use Rattle.rules.specs.Check.{compare-meets, compare-says}
 use Rattle.laws.proofs.Ruled.{ruled-none, ruled-met, ruled-passed, ruled-first, ruled-later}
 use Rattle.laws.proofs.Table.{table-106-1-has}
 use Rattle.laws.proofs.Refusals.{First, here, later, FirstGiven, first-is-given}
@@ -114,3 +116,7 @@ lookup-needs-no-column mixture minimum target e = given-is-among (mixture-meets 
 pub cutting-needs-no-column : (sublots : ℕ) (out : List ℕ) → cut-says sublots out ≡ refused NoColumn → ⊥
 unfolding cut-says cut-meets
 cutting-needs-no-column sublots out e = given-is-among (cut-meets sublots _) _ e
+
+pub comparing-needs-no-column : (a b : Sheet) (out : List ℤ) → compare-says a b out ≡ refused NoColumn → ⊥
+unfolding compare-says compare-meets
+comparing-needs-no-column a b out e = given-is-among (compare-meets a b _) _ e

@@ -2,10 +2,10 @@
 use mathlib.Core.Path.{_≡_}
 use mathlib.Core.Bool.{cond}
 use mathlib.Core.List.{List, [], _∷_}
-use Prim.Native.Nat.{ℕ, suc, _≤_, _<_}
+use Prim.Native.Nat.{ℕ, suc, _*_, _≤_, _<_}
 use lib.Dec.{eqb}
 use lib.IntN.{ℤ, pos, negℤ, natAbs, _-ℤ_}
-use lib.ListN.{length, drop, getD}
+use lib.ListN.{length, take, drop, getD}
 use Rattle.rules.specs.declared.Percentages.{Percentages}
 use Rattle.rules.specs.declared.Payment.{Payment}
 use Rattle.rules.specs.declared.Sheet.{Sheet}
@@ -14,7 +14,7 @@ use Rattle.rules.specs.declared.Finding.{Finding}
 use Rattle.rules.specs.declared.host.HostChecked.{HostChecked}
 use Rattle.rules.specs.Said.{answers}
 use Rattle.rules.specs.Lot.{Lot}
-use Rattle.rules.specs.Sheet.{sheet-numbers, sheet-of, differing}
+use Rattle.rules.specs.Sheet.{sheet-numbers, sheet-of, differing, differences, difference-numbers}
 use Rattle.rules.specs.Refusals.{greatest-entry}
 use Rattle.rules.specs.Entries.{evaluation-says, pay-says}
 use Rattle.laws.specs.Between.{Between}
@@ -71,6 +71,13 @@ unfoldable pub all-turned : List ℤ → List ℤ
 all-turned [] = []
 all-turned (entry ∷ []) = entry ∷ []
 all-turned (entry ∷ difference ∷ rest) = entry ∷ negℤ difference ∷ all-turned rest
+
+-- What a caller of the comparison gets: as many items as are answered stand at the start of the list, entry and difference of each, and what stood
+-- after them stays.
+pub record DifferencesGiven (a b : Sheet) (items : ℕ) (out after : List ℤ) : Type 0 where
+  pub count : length (differences a b) ≡ items
+  pub numbers : take (2 * items) after ≡ difference-numbers (differences a b)
+  pub rest : drop (2 * items) after ≡ drop (2 * items) out
 
 -- ---- our own sheet, and a check
 

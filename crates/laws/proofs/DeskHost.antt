@@ -7,6 +7,7 @@ use lib.Dec.{eqb·suc-zero}
 use lib.IntN.{ℤ, pos}
 use Rattle.rules.specs.declared.Limit.the-variants.{Absent, At}
 use Rattle.rules.specs.declared.Verdict.the-variants.{Accepted, Rejected}
+use Rattle.rules.specs.declared.Finding.{Finding}
 use Rattle.rules.specs.declared.Refusal.{Refusal}
 use Rattle.rules.specs.declared.Refusal.the-variants.{Size, Version, Flags, Count, Range, Unlimited, Crossed, Room, Number, NoColumn}
 use Rattle.rules.specs.declared.host.HostRefusal.{HostRefusal}
@@ -20,6 +21,8 @@ use Rattle.rules.specs.Refusals.{number-of}
 use Rattle.rules.specs.Notebook.{lent-limit}
 use Rattle.rules.specs.Entries.{read-says, read-leaves, beside, held}
 use Rattle.rules.specs.Host.{host-mean, host-deviation, host-percentages, host-payment, host-mixture-limits, held-lot, host-lot, host-read, host-written, host-listed}
+use Rattle.rules.specs.Sheet.{sheet-numbers}
+use Rattle.rules.specs.HostSheet.{held-sheet, host-checked}
 use Rattle.laws.specs.Desk.{at, asked}
 
 -- Presence 0 is absent and its number unread; any other is present.
@@ -116,6 +119,21 @@ pub percentages-are-given :
     (host-percentages (answers (record { upper = hundredths (pos 9337); lower = hundredths (pos 9791); pwl = hundredths (pos 9128); tried = record { upper = 6; lower = 5 } })) ≡
     record { refusal = numbered 0; upper = pos 9337; lower = pos 9791; pwl = pos 9128; tried = record { upper = 6; lower = 5 } })
 percentages-are-given = (refl, refl)
+
+-- Accepted is told from entry 0 differing, and neither is given beside a refusal.
+pub checked-is-given :
+    (host-checked (refused NoColumn) ≡ record { refusal = numbered 10; accepted = 0; entry = 0; sheet = pos 0; ours = pos 0 }) ×
+    (host-checked (answers Finding.Accepted) ≡ record { refusal = numbered 0; accepted = 1; entry = 0; sheet = pos 0; ours = pos 0 }) ×
+    (host-checked (answers (Finding.Differs (record { entry = 0; first = pos 9752; second = pos 9751 }))) ≡
+    record { refusal = numbered 0; accepted = 0; entry = 0; sheet = pos 9752; ours = pos 9751 })
+checked-is-given = (refl, refl, refl)
+
+-- Each entry of a host's sheet stands where it is meant.
+pub sheet-is-held :
+    sheet-numbers (held-sheet (record { vma = pos 1; voids = pos 2; density = pos 3; composite = pos 4; verdict = pos 5; pay = pos 6 })) ≡
+    pos 1 ∷ pos 2 ∷ pos 3 ∷ pos 4 ∷ pos 5 ∷ pos 6 ∷ []
+unfolding sheet-numbers
+sheet-is-held = refl
 
 -- A verdict's number is 0 accepted, 1 rejected.
 pub payment-is-given :

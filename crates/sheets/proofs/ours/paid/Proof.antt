@@ -1,5 +1,5 @@
 -- A refusal is passed on; else the sheet is that of the payment.
-use mathlib.Core.Path.{_≡_, sym, ap, _∙_}
+use mathlib.Core.Path.{sym, ap, _∙_}
 use borrow.Author.Needs.{needs}
 use Rattle.rules.specs.Answers.{pay-said}
 use Rattle.laws.proofs.OurSheet.{unpaid-sheet, paid-sheet}

@@ -1,5 +1,4 @@
 -- Each verdict's number.
-use mathlib.Core.Path.{refl}
 use borrow.Author.Needs.{needs}
 use Rattle.sheets.proofs.ours.verdict.Statement.{statement}
 use Rattle.sheets.proofs.ours.verdict.Tie as tie

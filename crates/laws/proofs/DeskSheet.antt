@@ -87,6 +87,23 @@ unfolding first-of differences differing sheet-numbers
 wrong-sheets-are-named =
     (refl, refl then refl then refl then refl then refl then refl then refl then refl then refl then done)
 
+-- ---- the verdict
+
+-- two equal readings at their limit, which have 100 percent, and past it, which have none
+abbrev good : Lot
+good = lot-of (at 4000) Absent (replicate 2 (pos 4000))
+
+abbrev past : Lot
+past = lot-of (at 3999) Absent (replicate 2 (pos 4000))
+
+-- A lot is rejected for any of the three: factors of 103 and 53 percent, at a dollar a ton and one ton.
+pub rejected-sheets-are-ours :
+    (ours-says past good good (pos 100) (pos 100) ≡ answers (sheet (pos 0) (pos 10000) (pos 10000) (pos 880) (pos 1) (pos 88))) ×
+    (ours-says good past good (pos 100) (pos 100) ≡ answers (sheet (pos 10000) (pos 0) (pos 10000) (pos 880) (pos 1) (pos 88))) ×
+    (ours-says good good past (pos 100) (pos 100) ≡ answers (sheet (pos 10000) (pos 10000) (pos 0) (pos 830) (pos 1) (pos 83)))
+unfolding ours-says our-meets our-sheet pwl-of payment factor weighted composite final-pay pay-meets ruled table-106-1 sum squares spread upper-distance lower-distance side upper-side lower-side any-out evaluation-meets percentages-of
+rejected-sheets-are-ours = (refl, refl, refl)
+
 -- ---- what a sheet is refused for
 
 abbrev refused-when : Sheet → Bool
@@ -108,10 +125,7 @@ sheets-are-taken = (refl, refl, refl, refl, refl, refl, refl, refl, refl, refl)
 
 -- ---- the order of refusals
 
--- two equal readings at their limit, which have 100 percent; one reading; no limit; eleven readings
-abbrev good : Lot
-good = lot-of (at 4000) Absent (replicate 2 (pos 4000))
-
+-- one reading; no limit; eleven readings
 abbrev one : Lot
 one = lot-of (at 4000) Absent (pos 4000 ∷ [])
 

@@ -64,12 +64,30 @@ static struct tulpavice_listed no_cut(size_t sublots, uint32_t *out, size_t room
     return (struct tulpavice_listed){0};
 }
 
+static struct tulpavice_checked no_check(struct tulpavice_lot vma, struct tulpavice_lot voids,
+                                         struct tulpavice_lot density, int64_t price, int64_t quantity,
+                                         struct tulpavice_sheet sheet)
+{
+    (void)vma, (void)voids, (void)density, (void)price, (void)quantity, (void)sheet;
+    return (struct tulpavice_checked){0};
+}
+
+static struct tulpavice_listed no_compare(struct tulpavice_sheet first, struct tulpavice_sheet second, int64_t *out,
+                                          size_t room)
+{
+    (void)first, (void)second, (void)out, (void)room;
+    return (struct tulpavice_listed){0};
+}
+
 const struct calculator library = {"library", tulpavice_evaluate, tulpavice_evaluate_lot, tulpavice_read,
                                    tulpavice_write, tulpavice_pay, tulpavice_mixture, tulpavice_mean,
-                                   tulpavice_deviation, tulpavice_row, tulpavice_cut};
+                                   tulpavice_deviation, tulpavice_row, tulpavice_cut, tulpavice_check,
+                                   tulpavice_compare};
 
 const struct calculator plain = {"plain", plain_evaluate, plain_evaluate_lot, plain_read, plain_write, plain_pay,
-                                 plain_mixture, plain_mean, plain_deviation, plain_row, plain_cut};
+                                 plain_mixture, plain_mean, plain_deviation, plain_row, plain_cut, plain_check,
+                                 plain_compare};
 
 const struct calculator nothing = {"nothing", no_evaluate, no_evaluate_lot, no_read, no_write, no_pay,
-                                   no_mixture, no_mean, no_deviation, no_row, no_cut};
+                                   no_mixture, no_mean, no_deviation, no_row, no_cut, no_check,
+                                   no_compare};

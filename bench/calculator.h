@@ -19,6 +19,10 @@ struct calculator {
     struct tulpavice_row (*row)(const uint8_t *readings, size_t size, int32_t upper, uint32_t upper_present,
                                 int32_t lower, uint32_t lower_present);
     struct tulpavice_listed (*cut)(size_t sublots, uint32_t *out, size_t room);
+    struct tulpavice_checked (*check)(struct tulpavice_lot vma, struct tulpavice_lot voids, struct tulpavice_lot density,
+                                      int64_t price, int64_t quantity, struct tulpavice_sheet sheet);
+    struct tulpavice_listed (*compare)(struct tulpavice_sheet first, struct tulpavice_sheet second, int64_t *out,
+                                       size_t room);
 };
 
 /* The library, plain C, and a calculator whose answers are all zero: what a loop of calls costs by itself. */

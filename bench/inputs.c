@@ -142,6 +142,55 @@ static struct job job_to_cut(void)
     return job;
 }
 
+/* A lot that has a percentage. */
+static struct tulpavice_lot lot_of_sheet(void)
+{
+    struct tulpavice_lot lot = lot_of_job();
+    if (lot.count > WHOLE_LOT)
+        lot.count = WHOLE_LOT;
+    return lot;
+}
+
+static struct tulpavice_sheet right_sheet(const struct claim *claim)
+{
+    int64_t vma = plain_evaluate_lot(claim->vma).pwl, voids = plain_evaluate_lot(claim->voids).pwl,
+            density = plain_evaluate_lot(claim->density).pwl;
+    struct tulpavice_payment paid = plain_pay(vma, voids, density, claim->price, claim->quantity);
+    return (struct tulpavice_sheet){vma, voids, density, paid.composite, paid.lot, paid.pay};
+}
+
+/* An entry, and the pay that follows from it, are claimed too high. */
+static void inflate(struct tulpavice_sheet *sheet)
+{
+    switch (between(0, 3)) {
+    case 0:
+        sheet->voids += 100;
+        break;
+    case 1:
+        sheet->density += 1;
+        break;
+    case 2:
+        sheet->composite += 3;
+    }
+    sheet->pay += between(1, 100000);
+}
+
+/* One sheet in two is right, and is compared with one that is not. */
+static struct claim claim_of_job(void)
+{
+    struct claim claim = {.vma = lot_of_sheet(), .voids = lot_of_sheet(), .density = lot_of_sheet(),
+                          .price = between(5000, 15000), .quantity = between(10000, 2000000), .room = DIFFERENCES};
+    claim.sheet = claim.other = right_sheet(&claim);
+    inflate(one_in(2) ? &claim.sheet : &claim.other);
+    if (one_in(ONE_REFUSED_IN))
+        spoil_lot(&claim.density);
+    if (one_in(ONE_REFUSED_IN))
+        claim.sheet.verdict = 2;
+    if (one_in(ONE_REFUSED_IN))
+        claim.room = 1;
+    return claim;
+}
+
 void make_inputs(struct inputs *inputs, size_t number)
 {
     state = 106;
@@ -159,4 +208,6 @@ void make_inputs(struct inputs *inputs, size_t number)
             inputs->lookups[i].mixture = 4;
         inputs->jobs[i] = job_to_cut();
     }
+    for (size_t i = 0; i < number; i++)
+        inputs->claims[i] = claim_of_job();
 }

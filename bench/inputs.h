@@ -9,7 +9,8 @@ enum {
     MOST_INPUTS = 4096,
     PAST = 8,
     ROOM = TULPAVICE_MOST_BYTES + PAST,
-    LIST = 2 * TULPAVICE_MOST_LOTS + PAST
+    LIST = 2 * TULPAVICE_MOST_LOTS + PAST,
+    DIFFERENCES = 2 * TULPAVICE_ENTRIES + PAST
 };
 
 struct record {
@@ -36,6 +37,18 @@ struct job {
     size_t room;
 };
 
+/* A pay sheet, with the lots, price and quantity that it is for, and one to compare it with, into so much room. */
+struct claim {
+    struct tulpavice_lot vma;
+    struct tulpavice_lot voids;
+    struct tulpavice_lot density;
+    int64_t price;
+    int64_t quantity;
+    struct tulpavice_sheet sheet;
+    struct tulpavice_sheet other;
+    size_t room;
+};
+
 /* So many of each. A lot is evaluated from its places, as a whole and from its readings as bytes, and written into so
    much room. */
 struct inputs {
@@ -47,6 +60,7 @@ struct inputs {
     struct sale sales[MOST_INPUTS];
     struct lookup lookups[MOST_INPUTS];
     struct job jobs[MOST_INPUTS];
+    struct claim claims[MOST_INPUTS];
 };
 
 void make_inputs(struct inputs *inputs, size_t number);

@@ -107,6 +107,33 @@ static size_t answer_cut(const struct calculator *who, const struct inputs *inpu
     return 2 + LIST;
 }
 
+CALL(check, struct tulpavice_checked)
+{
+    const struct claim *claim = &inputs->claims[i];
+    return who->check(claim->vma, claim->voids, claim->density, claim->price, claim->quantity, claim->sheet);
+}
+LOOP(check, struct tulpavice_checked, a.refusal.number + a.accepted + a.entry + a.sheet + a.ours)
+ANSWER(check, struct tulpavice_checked, a.refusal.number, a.accepted, a.entry, a.sheet, a.ours)
+
+static int64_t differences[DIFFERENCES];
+
+CALL(compare, struct tulpavice_listed)
+{
+    const struct claim *claim = &inputs->claims[i];
+    return who->compare(claim->sheet, claim->other, differences, claim->room);
+}
+LOOP(compare, struct tulpavice_listed, a.refusal.number + a.items + (a.items ? differences[2 * a.items - 1] : 0))
+
+static size_t answer_compare(const struct calculator *who, const struct inputs *inputs, size_t i, int64_t *taken)
+{
+    memset(differences, 0xA5, sizeof differences);
+    struct tulpavice_listed a = call_compare(who, inputs, i);
+    taken[0] = a.refusal.number;
+    taken[1] = (int64_t)a.items;
+    memcpy(taken + 2, differences, sizeof differences);
+    return 2 + DIFFERENCES;
+}
+
 CALL(pay, struct tulpavice_payment)
 {
     const struct sale *sale = &inputs->sales[i];
@@ -190,6 +217,22 @@ static void show_job(const struct inputs *inputs, size_t i)
     printf("%zu sublots, room %zu", inputs->jobs[i].sublots, inputs->jobs[i].room);
 }
 
+static void show_sheet(const struct tulpavice_sheet *sheet)
+{
+    printf("%" PRId64 " %" PRId64 " %" PRId64 " %" PRId64 " %" PRId64 " %" PRId64, sheet->vma, sheet->voids,
+           sheet->density, sheet->composite, sheet->verdict, sheet->pay);
+}
+
+static void show_claim(const struct inputs *inputs, size_t i)
+{
+    const struct claim *claim = &inputs->claims[i];
+    printf("sheet ");
+    show_sheet(&claim->sheet);
+    printf(", other ");
+    show_sheet(&claim->other);
+    printf(", room %zu", claim->room);
+}
+
 #define KIND(NAME, SHOW, CALLS) {#NAME, run_##NAME, answer_##NAME, SHOW, CALLS}
 
 /* The deviation's search from zero is slow by design: a turn has fewer of it. */
@@ -199,5 +242,5 @@ const struct kind kinds[KINDS] = {
     KIND(evaluate, show_lot, CALLS), KIND(evaluate_lot, show_lot, CALLS), KIND(read, show_record, CALLS),
     KIND(write, show_lot, CALLS),    KIND(pay, show_sale, CALLS),         KIND(mixture, show_lookup, CALLS),
     KIND(mean, show_lot, CALLS),     KIND(deviation, show_lot, SLOW_CALLS), KIND(row, show_lot, SLOW_CALLS),
-    KIND(cut, show_job, CALLS),
+    KIND(cut, show_job, CALLS),      KIND(check, show_claim, CALLS),      KIND(compare, show_claim, CALLS),
 };

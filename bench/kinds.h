@@ -18,7 +18,7 @@ struct kind {
     size_t calls_a_turn;
 };
 
-enum { KINDS = 10 };
+enum { KINDS = 12 };
 
 extern const struct kind kinds[KINDS];
 

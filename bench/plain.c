@@ -305,6 +305,100 @@ struct tulpavice_listed plain_cut(size_t sublots, uint32_t *out, size_t room)
     return answer;
 }
 
+static bool sheet_refused(const struct tulpavice_sheet *sheet)
+{
+    const int64_t greatest = 1000000000000000;
+    return outside(sheet->vma, greatest) || outside(sheet->voids, greatest) || outside(sheet->density, greatest) ||
+           outside(sheet->composite, greatest) || outside(sheet->verdict, 1) || outside(sheet->pay, greatest);
+}
+
+static struct tulpavice_percentages evaluate(const struct tulpavice_lot *lot)
+{
+    return plain_evaluate(lot->readings, lot->count, lot->upper, lot->upper_present, lot->lower, lot->lower_present);
+}
+
+/* The sheet that the rules give; the refusal, or 0 for none. */
+static uint32_t work_out(const struct tulpavice_lot *vma, const struct tulpavice_lot *voids,
+                         const struct tulpavice_lot *density, int64_t price, int64_t quantity,
+                         struct tulpavice_sheet *sheet)
+{
+    struct tulpavice_percentages a = evaluate(vma);
+    if (a.refusal.number != 0)
+        return a.refusal.number;
+    struct tulpavice_percentages b = evaluate(voids);
+    if (b.refusal.number != 0)
+        return b.refusal.number;
+    struct tulpavice_percentages c = evaluate(density);
+    if (c.refusal.number != 0)
+        return c.refusal.number;
+    struct tulpavice_payment paid = plain_pay(a.pwl, b.pwl, c.pwl, price, quantity);
+    *sheet = (struct tulpavice_sheet){a.pwl, b.pwl, c.pwl, paid.composite, paid.lot, paid.pay};
+    return paid.refusal.number;
+}
+
+static void take_entries(const struct tulpavice_sheet *sheet, int64_t *entries)
+{
+    entries[0] = sheet->vma;
+    entries[1] = sheet->voids;
+    entries[2] = sheet->density;
+    entries[3] = sheet->composite;
+    entries[4] = sheet->verdict;
+    entries[5] = sheet->pay;
+}
+
+struct tulpavice_checked plain_check(struct tulpavice_lot vma, struct tulpavice_lot voids, struct tulpavice_lot density,
+                                     int64_t price, int64_t quantity, struct tulpavice_sheet sheet)
+{
+    struct tulpavice_checked answer = {0};
+    struct tulpavice_sheet right;
+    int64_t ours[TULPAVICE_ENTRIES], theirs[TULPAVICE_ENTRIES];
+    answer.refusal.number = work_out(&vma, &voids, &density, price, quantity, &right);
+    if (answer.refusal.number == 0 && sheet_refused(&sheet))
+        answer.refusal.number = 9;
+    if (answer.refusal.number != 0)
+        return answer;
+    take_entries(&right, ours);
+    take_entries(&sheet, theirs);
+    for (uint32_t i = 0; i < TULPAVICE_ENTRIES; i++) {
+        if (theirs[i] != ours[i]) {
+            answer.entry = i;
+            answer.sheet = theirs[i];
+            answer.ours = ours[i];
+            return answer;
+        }
+    }
+    answer.accepted = 1;
+    return answer;
+}
+
+struct tulpavice_listed plain_compare(struct tulpavice_sheet first, struct tulpavice_sheet second, int64_t *out,
+                                      size_t room)
+{
+    struct tulpavice_listed answer = {0};
+    int64_t a[TULPAVICE_ENTRIES], b[TULPAVICE_ENTRIES];
+    size_t items = 0;
+    if (sheet_refused(&first) || sheet_refused(&second)) {
+        answer.refusal.number = 9;
+        return answer;
+    }
+    take_entries(&first, a);
+    take_entries(&second, b);
+    for (size_t i = 0; i < TULPAVICE_ENTRIES; i++)
+        items += a[i] != b[i];
+    if (room < 2 * items) {
+        answer.refusal.number = 8;
+        return answer;
+    }
+    for (int64_t i = 0; i < TULPAVICE_ENTRIES; i++) {
+        if (a[i] != b[i]) {
+            *out++ = i;
+            *out++ = a[i] - b[i];
+        }
+    }
+    answer.items = items;
+    return answer;
+}
+
 /* n, T and V of readings as bytes; the refusal, 4 or 5, or 0 for none. */
 static uint32_t total_bytes(const uint8_t *bytes, size_t size, struct totals *a)
 {

@@ -14,6 +14,10 @@ struct tulpavice_mixture_limits plain_mixture(int64_t mixture, int32_t minimum, 
 struct tulpavice_read plain_read(const uint8_t *bytes, size_t size);
 struct tulpavice_written plain_write(struct tulpavice_lot lot, uint8_t *out, size_t room);
 struct tulpavice_listed plain_cut(size_t sublots, uint32_t *out, size_t room);
+struct tulpavice_checked plain_check(struct tulpavice_lot vma, struct tulpavice_lot voids, struct tulpavice_lot density,
+                                     int64_t price, int64_t quantity, struct tulpavice_sheet sheet);
+struct tulpavice_listed plain_compare(struct tulpavice_sheet first, struct tulpavice_sheet second, int64_t *out,
+                                      size_t room);
 struct tulpavice_row plain_row(const uint8_t *bytes, size_t size, int32_t upper, uint32_t upper_present, int32_t lower,
                                uint32_t lower_present);
 

@@ -15,12 +15,13 @@ use Rattle.rules.specs.declared.MixtureAnswer.{MixtureAnswer}
 use Rattle.rules.specs.declared.Outcome.{Outcome}
 use Rattle.rules.specs.declared.WriteAnswer.{WriteAnswer}
 use Rattle.rules.specs.declared.ListAnswer.{ListAnswer}
+use Rattle.rules.specs.declared.PwlAnswer.{PwlAnswer}
 use Rattle.rules.specs.declared.SheetAnswer.{SheetAnswer}
 use Rattle.rules.specs.declared.CheckAnswer.{CheckAnswer}
 use Rattle.rules.specs.declared.RowAnswer.{RowAnswer}
 use Rattle.rules.specs.Said.{Said, refused, answers}
 use Rattle.rules.specs.Refusals.{number-of}
-use Rattle.rules.specs.Answers.{totals-said, mean-said, deviation-said, evaluation-said, pay-said, mixture-said, outcome-said, ReadSaid, read-said, write-said, list-said, sheet-said, check-said, row-said}
+use Rattle.rules.specs.Answers.{totals-said, mean-said, deviation-said, evaluation-said, pay-said, mixture-said, outcome-said, ReadSaid, read-said, write-said, list-said, pwl-said, sheet-said, check-said, row-said}
 
 -- If f x = f y, then x = y.
 abbrev pub Injective : {A B : Type 0} → (A → B) → Type 0
@@ -94,6 +95,11 @@ pub list-injective : Injective list-said
 list-injective =
     read-back list-said (read ListAnswer.Answers ListAnswer.Refused)
     (elim [ ListAnswer.Answers a ↦ refl | ListAnswer.Refused r ↦ refl ])
+
+pub pwl-injective : Injective pwl-said
+pwl-injective =
+    read-back pwl-said (read PwlAnswer.Answers PwlAnswer.Refused)
+    (elim [ PwlAnswer.Answers a ↦ refl | PwlAnswer.Refused r ↦ refl ])
 
 pub sheet-injective : Injective sheet-said
 sheet-injective =

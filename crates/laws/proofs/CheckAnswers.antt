@@ -30,7 +30,7 @@ use Rattle.laws.specs.Payable.{Payable}
 use Rattle.laws.specs.Sheet.{SheetTaken, Found, IsOurs, AsCompared, given-finding}
 use Rattle.laws.proofs.Ruled.{ruled-answers}
 use Rattle.laws.proofs.Payable.{payable, not-payable-is-refused}
-use Rattle.laws.proofs.OurSheet.{first-lot-refused, second-lot-refused, third-lot-refused, lots-answered, ours-refused, unfit-is-refused, sheet-is-found, unpaid-sheet, paid-sheet}
+use Rattle.laws.proofs.OurSheet.{evaluation-refused, evaluation-answered, first-lot-refused, second-lot-refused, third-lot-refused, lots-answered, ours-refused, unfit-is-refused, sheet-is-found, unpaid-sheet, paid-sheet}
 use Rattle.laws.proofs.SheetTaken.{sheet-is-taken, taken-is-no-case, untaken-is-a-case, paid-sheet-is-taken}
 use Rattle.laws.proofs.Sheets.{finding-is-found, found-determined}
 use Rattle.laws.proofs.Given.{checked-given}
@@ -51,7 +51,7 @@ module _ (vma voids density : Lot) (price quantity : ℤ) where
 
   pub ours-is-answered : {ours : Sheet} → IsOurs vma voids density price quantity ours → ours-said ≡ answers ours
   ours-is-answered h =
-      lots-answered vma voids density price quantity (h .vma-answered) (h .voids-answered) (h .density-answered)
+      lots-answered vma voids density price quantity (evaluation-answered vma (h .vma-answered)) (evaluation-answered voids (h .voids-answered)) (evaluation-answered density (h .density-answered))
       ∙ paid-sheet _ _ _ price quantity (h .paid)
       ∙ ap (λ (sheet : Sheet). answers sheet) (sym (h .same))
 
@@ -59,7 +59,7 @@ module _ (vma voids density : Lot) (price quantity : ℤ) where
   answered-is-ours {ours} e = first (evaluation-says vma) refl
     where
       paid : (p q s : Percentages) → evaluation-says vma ≡ answers p → evaluation-says voids ≡ answers q → evaluation-says density ≡ answers s → (said : Said Payment) → pay-says (p .pwl .0) (q .pwl .0) (s .pwl .0) price quantity ≡ said → IsOurs vma voids density price quantity ours
-      paid p q s a b c (refused r) f = absurd (unlike (lots-answered vma voids density price quantity a b c ∙ unpaid-sheet _ _ _ _ _ f) e)
+      paid p q s a b c (refused r) f = absurd (unlike (lots-answered vma voids density price quantity (evaluation-answered vma a) (evaluation-answered voids b) (evaluation-answered density c) ∙ unpaid-sheet _ _ _ _ _ f) e)
       paid p q s a b c (answers z) f =
           record {
             of-vma = p;
@@ -70,19 +70,19 @@ module _ (vma voids density : Lot) (price quantity : ℤ) where
             density-answered = c;
             settled = z;
             paid = f;
-            same = ap (value ours) (sym e ∙ lots-answered vma voids density price quantity a b c ∙ paid-sheet _ _ _ _ _ f);
+            same = ap (value ours) (sym e ∙ lots-answered vma voids density price quantity (evaluation-answered vma a) (evaluation-answered voids b) (evaluation-answered density c) ∙ paid-sheet _ _ _ _ _ f);
           }
 
       third : (p q : Percentages) → evaluation-says vma ≡ answers p → evaluation-says voids ≡ answers q → (said : Said Percentages) → evaluation-says density ≡ said → IsOurs vma voids density price quantity ours
-      third p q a b (refused r) f = absurd (unlike (third-lot-refused vma voids density price quantity a b f) e)
+      third p q a b (refused r) f = absurd (unlike (third-lot-refused vma voids density price quantity (evaluation-answered vma a) (evaluation-answered voids b) (evaluation-refused density f)) e)
       third p q a b (answers s) f = paid p q s a b f (pay-says (p .pwl .0) (q .pwl .0) (s .pwl .0) price quantity) refl
 
       second : (p : Percentages) → evaluation-says vma ≡ answers p → (said : Said Percentages) → evaluation-says voids ≡ said → IsOurs vma voids density price quantity ours
-      second p a (refused r) f = absurd (unlike (second-lot-refused vma voids density price quantity a f) e)
+      second p a (refused r) f = absurd (unlike (second-lot-refused vma voids density price quantity (evaluation-answered vma a) (evaluation-refused voids f)) e)
       second p a (answers q) f = third p q a f (evaluation-says density) refl
 
       first : (said : Said Percentages) → evaluation-says vma ≡ said → IsOurs vma voids density price quantity ours
-      first (refused r) f = absurd (unlike (first-lot-refused vma voids density price quantity f) e)
+      first (refused r) f = absurd (unlike (first-lot-refused vma voids density price quantity (evaluation-refused vma f)) e)
       first (answers p) f = second p f (evaluation-says voids) refl
 
   -- It is never refused.
@@ -128,22 +128,22 @@ module _ (vma voids density : Lot) (price quantity : ℤ) where
     -- ---- refusals, in their order
 
     pub first-lot-comes-first : {r : Refusal} → evaluation-says vma ≡ refused r → check-says vma voids density price quantity sheet ≡ refused r
-    first-lot-comes-first e = ours-refused vma voids density price quantity sheet (first-lot-refused vma voids density price quantity e)
+    first-lot-comes-first e = ours-refused vma voids density price quantity sheet (first-lot-refused vma voids density price quantity (evaluation-refused vma e))
 
     module _ {p : Percentages} (a : evaluation-says vma ≡ answers p) where
       pub second-lot-comes-next : {r : Refusal} → evaluation-says voids ≡ refused r → check-says vma voids density price quantity sheet ≡ refused r
-      second-lot-comes-next e = ours-refused vma voids density price quantity sheet (second-lot-refused vma voids density price quantity a e)
+      second-lot-comes-next e = ours-refused vma voids density price quantity sheet (second-lot-refused vma voids density price quantity (evaluation-answered vma a) (evaluation-refused voids e))
 
       module _ {q : Percentages} (b : evaluation-says voids ≡ answers q) where
         pub third-lot-comes-then : {r : Refusal} → evaluation-says density ≡ refused r → check-says vma voids density price quantity sheet ≡ refused r
-        third-lot-comes-then e = ours-refused vma voids density price quantity sheet (third-lot-refused vma voids density price quantity a b e)
+        third-lot-comes-then e = ours-refused vma voids density price quantity sheet (third-lot-refused vma voids density price quantity (evaluation-answered vma a) (evaluation-answered voids b) (evaluation-refused density e))
 
         -- a price or a quantity that pay does not take, where it takes the PWLs of all lots
         pub price-and-quantity-follow :
             {s : Percentages} → evaluation-says density ≡ answers s → ¬ Payable (p .pwl .0) (q .pwl .0) (s .pwl .0) price quantity →
             check-says vma voids density price quantity sheet ≡ refused Number
         price-and-quantity-follow c e =
-            ours-refused vma voids density price quantity sheet (lots-answered vma voids density price quantity a b c ∙ unpaid-sheet _ _ _ _ _ (not-payable-is-refused _ _ _ _ _ e))
+            ours-refused vma voids density price quantity sheet (lots-answered vma voids density price quantity (evaluation-answered vma a) (evaluation-answered voids b) (evaluation-answered density c) ∙ unpaid-sheet _ _ _ _ _ (not-payable-is-refused _ _ _ _ _ e))
 
     pub sheet-comes-last : {ours : Sheet} → IsOurs vma voids density price quantity ours → ¬ SheetTaken sheet → check-says vma voids density price quantity sheet ≡ refused Number
     sheet-comes-last h bad = unfit-is-refused vma voids density price quantity sheet (ours-is-answered h) (untaken-is-a-case sheet bad)

@@ -1,69 +1,97 @@
 -- What is said of our own sheet, and of a sheet beside it, by what our entries say of each lot and of the pay.
-use mathlib.Core.Path.{_≡_, ap, _∙_}
+use mathlib.Core.Path.{_≡_, sym, ap, _∙_}
 use mathlib.Core.Bool.{true, false}
 use mathlib.Core.List.{[], _∷_}
 use lib.IntN.{ℤ}
+use Rattle.rules.specs.declared.Hundredths.{Hundredths}
 use Rattle.rules.specs.declared.Percentages.{Percentages}
+use Rattle.rules.specs.declared.Totals.{Totals}
+use Rattle.rules.specs.declared.TotalsAnswer.{TotalsAnswer}
 use Rattle.rules.specs.declared.Payment.{Payment}
 use Rattle.rules.specs.declared.Sheet.{Sheet}
 use Rattle.rules.specs.declared.Refusal.{Refusal}
 use Rattle.rules.specs.declared.Refusal.the-variants.{Number}
 use Rattle.rules.specs.Said.{refused, answers, ruled, checked}
 use Rattle.rules.specs.Lot.{Lot}
+use Rattle.rules.specs.Table.{table-106-1, entries}
+use Rattle.rules.specs.Percent.{nearest}
 use Rattle.rules.specs.Pay.{payment}
 use Rattle.rules.specs.Sheet.{sheet-of, differences, first-of}
 use Rattle.rules.specs.Refusals.{sheet-case}
 use Rattle.rules.specs.Meets.{pay-meets}
-use Rattle.rules.specs.Entries.{evaluated, evaluation-says, pay-says}
-use Rattle.rules.specs.Check.{pwl-of, our-meets, our-sheet, ours-says, check-says}
-use Rattle.laws.specs.Totalled.{by-table}
-use Rattle.laws.proofs.Ruled.{ruled-none, ruled-met, ruled-passed, ruled-answers, refused-alike, ruled-unrefused, ruled-first, ruled-later}
+use Rattle.rules.specs.Answers.{totals-said}
+use Rattle.rules.specs.Entries.{percentages-of, evaluated, evaluation-says, pay-says}
+use Rattle.rules.specs.Check.{pwl-of, pwl-says, our-meets, our-sheet, ours-says, check-says}
+use Rattle.laws.specs.Totalled.{lot-totals, totalled, by-table}
+use Rattle.laws.proofs.Ruled.{ruled-none, ruled-met, ruled-passed, ruled-answers, refused-alike, ruled-unrefused, ruled-first, ruled-later, totals-refused}
+use Rattle.laws.proofs.Accepted.{LotTotalled}
 
--- A lot that is refused is refused whatever is asked for; of one that is answered the PWL is the answer's.
-lot-refused : (lot : Lot) {r : Refusal} → evaluation-says lot ≡ refused r → checked (by-table lot) ≡ refused r
-unfolding evaluation-says evaluated
-lot-refused lot e = refused-alike (by-table lot) _ tt e
+-- Of a lot whose PWL is answered no case applies, and this is the PWL.
+pub record Answered (lot : Lot) (pwl : ℤ) : Type 0 where
+  pub none : checked (by-table lot) ≡ answers tt
+  pub is : pwl-of lot ≡ pwl
 
-lot-answered : (lot : Lot) {p : Percentages} → evaluation-says lot ≡ answers p → (checked (by-table lot) ≡ answers tt) × (pwl-of lot ≡ p .pwl .0)
-unfolding evaluation-says evaluated pwl-of
-lot-answered lot e = let h = ruled-answers (by-table lot) _ _ e in (h .0, ap (λ (p : Percentages). p .pwl .0) (h .1))
+-- A lot that evaluation refuses has no PWL, for the same refusal, and the other way round; of one that it answers the PWL is the answer's.
+module _ (lot : Lot) where
+  pub evaluation-refused : {r : Refusal} → evaluation-says lot ≡ refused r → checked (by-table lot) ≡ refused r
+  unfolding evaluation-says evaluated
+  evaluation-refused e = refused-alike (by-table lot) _ tt e
+
+  pub evaluation-answered : {p : Percentages} → evaluation-says lot ≡ answers p → Answered lot (p .pwl .0)
+  unfolding evaluation-says evaluated pwl-of
+  evaluation-answered e = let h = ruled-answers (by-table lot) _ _ e in record { none = h .0; is = ap (λ (p : Percentages). p .pwl .0) (h .1) }
+
+  pub pwl-refused : {r : Refusal} → pwl-says lot ≡ refused r → checked (by-table lot) ≡ refused r
+  unfolding pwl-says
+  pwl-refused e = refused-alike (by-table lot) _ tt e
+
+  pub pwl-answered : {p : Hundredths} → pwl-says lot ≡ answers p → Answered lot (p .0)
+  unfolding pwl-says
+  pwl-answered e = let h = ruled-answers (by-table lot) _ _ e in record { none = h .0; is = ap (λ (p : Hundredths). p .0) (h .1) }
+
+-- Where its totals are said, so is the PWL of these totals,
+pub totalled-pwl-is-said :
+    {lot : Lot} {a : Totals} → LotTotalled lot a →
+    answers (percentages-of nearest (entries (table-106-1 (a .n))) a (lot .upper) (lot .lower) .pwl) ≡ pwl-says lot
+unfolding pwl-says pwl-of
+totalled-pwl-is-said {lot} h =
+    ap (λ (b : Totals). answers (percentages-of nearest (entries (table-106-1 (b .n))) b (lot .upper) (lot .lower) .pwl)) (sym (h .same))
+    ∙ sym (ruled-unrefused _ _ (h .unrefused))
+
+-- and where they are refused, it is the same refusal.
+pub untotalled-pwl-is-refused : (lot : Lot) {t : TotalsAnswer} {r : Refusal} → totals-said t ≡ totalled by-table lot → t ≡ TotalsAnswer.Refused r → pwl-says lot ≡ refused r
+unfolding pwl-says totalled
+untotalled-pwl-is-refused lot e h = totals-refused (by-table lot) (lot-totals lot) e _ h
 
 module _ (vma voids density : Lot) (price quantity : ℤ) where
   -- All of the first lot's refusals come first,
-  pub first-lot-refused : {r : Refusal} → evaluation-says vma ≡ refused r → ours-says vma voids density price quantity ≡ refused r
+  pub first-lot-refused : {r : Refusal} → checked (by-table vma) ≡ refused r → ours-says vma voids density price quantity ≡ refused r
   unfolding ours-says our-meets
-  first-lot-refused e = ruled-first (by-table vma) _ _ (lot-refused vma e)
+  first-lot-refused e = ruled-first (by-table vma) _ _ e
 
-  module _ {p : Percentages} (e : evaluation-says vma ≡ answers p) where
+  module _ {p : ℤ} (a : Answered vma p) where
     -- then all of the second's,
-    pub second-lot-refused : {r : Refusal} → evaluation-says voids ≡ refused r → ours-says vma voids density price quantity ≡ refused r
+    pub second-lot-refused : {r : Refusal} → checked (by-table voids) ≡ refused r → ours-says vma voids density price quantity ≡ refused r
     unfolding ours-says our-meets
-    second-lot-refused f = ruled-later (by-table vma) _ _ (lot-answered vma e .0) ∙ ruled-first (by-table voids) _ _ (lot-refused voids f)
+    second-lot-refused e = ruled-later (by-table vma) _ _ (a .none) ∙ ruled-first (by-table voids) _ _ e
 
-    module _ {q : Percentages} (f : evaluation-says voids ≡ answers q) where
+    module _ {q : ℤ} (b : Answered voids q) where
       -- then all of the third's,
-      pub third-lot-refused : {r : Refusal} → evaluation-says density ≡ refused r → ours-says vma voids density price quantity ≡ refused r
+      pub third-lot-refused : {r : Refusal} → checked (by-table density) ≡ refused r → ours-says vma voids density price quantity ≡ refused r
       unfolding ours-says our-meets
-      third-lot-refused g =
-          ruled-later (by-table vma) _ _ (lot-answered vma e .0)
-          ∙ ruled-later (by-table voids) _ _ (lot-answered voids f .0)
-          ∙ ruled-first (by-table density) _ _ (lot-refused density g)
+      third-lot-refused e =
+          ruled-later (by-table vma) _ _ (a .none) ∙ ruled-later (by-table voids) _ _ (b .none) ∙ ruled-first (by-table density) _ _ e
 
       -- and where all three are answered, the pay decides.
       pub lots-answered :
-          {s : Percentages} → evaluation-says density ≡ answers s →
-          ours-says vma voids density price quantity ≡
-          ruled (pay-meets (p .pwl .0) (q .pwl .0) (s .pwl .0) price quantity)
-          (sheet-of (p .pwl .0) (q .pwl .0) (s .pwl .0) (payment (p .pwl .0) (q .pwl .0) (s .pwl .0) price quantity))
+          {s : ℤ} → Answered density s →
+          ours-says vma voids density price quantity ≡ ruled (pay-meets p q s price quantity) (sheet-of p q s (payment p q s price quantity))
       unfolding ours-says our-meets our-sheet
-      lots-answered g =
-          let a = lot-answered vma e in
-          let b = lot-answered voids f in
-          let c = lot-answered density g in
-          ruled-later (by-table vma) _ _ (a .0)
-          ∙ ruled-later (by-table voids) _ _ (b .0)
-          ∙ ruled-later (by-table density) _ _ (c .0)
-          ∙ λ i. ruled (pay-meets (a .1 i) (b .1 i) (c .1 i) price quantity) (sheet-of (a .1 i) (b .1 i) (c .1 i) (payment (a .1 i) (b .1 i) (c .1 i) price quantity))
+      lots-answered c =
+          ruled-later (by-table vma) _ _ (a .none)
+          ∙ ruled-later (by-table voids) _ _ (b .none)
+          ∙ ruled-later (by-table density) _ _ (c .none)
+          ∙ λ i. ruled (pay-meets (a .is i) (b .is i) (c .is i) price quantity) (sheet-of (a .is i) (b .is i) (c .is i) (payment (a .is i) (b .is i) (c .is i) price quantity))
 
   -- A sheet is looked at after all of these, and held against ours.
   pub ours-refused : (sheet : Sheet) {r : Refusal} → ours-says vma voids density price quantity ≡ refused r → check-says vma voids density price quantity sheet ≡ refused r

@@ -17,6 +17,8 @@ use Rattle.rules.specs.declared.Outcome.{Outcome}
 use Rattle.rules.specs.declared.ReadAnswer.{ReadAnswer}
 use Rattle.rules.specs.declared.WriteAnswer.{WriteAnswer}
 use Rattle.rules.specs.declared.ListAnswer.{ListAnswer}
+use Rattle.rules.specs.declared.Hundredths.{Hundredths}
+use Rattle.rules.specs.declared.PwlAnswer.{PwlAnswer}
 use Rattle.rules.specs.declared.Sheet.{Sheet}
 use Rattle.rules.specs.declared.SheetAnswer.{SheetAnswer}
 use Rattle.rules.specs.declared.Finding.{Finding}
@@ -68,6 +70,10 @@ write-said (WriteAnswer.Refused r) = refused r
 abbrev pub list-said : ListAnswer → Said ℕ
 list-said (ListAnswer.Answers items) = answers items
 list-said (ListAnswer.Refused r) = refused r
+
+abbrev pub pwl-said : PwlAnswer → Said Hundredths
+pwl-said (PwlAnswer.Answers pwl) = answers pwl
+pwl-said (PwlAnswer.Refused r) = refused r
 
 abbrev pub sheet-said : SheetAnswer → Said Sheet
 sheet-said (SheetAnswer.Answers sheet) = answers sheet

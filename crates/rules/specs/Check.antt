@@ -3,8 +3,10 @@ use mathlib.Core.List.{List, [], _∷_, _++_}
 use Prim.Native.Nat.{ℕ}
 use lib.IntN.{ℤ}
 use lib.ListN.{length}
+use Rattle.rules.specs.declared.Hundredths.{Hundredths}
 use Rattle.rules.specs.declared.Sheet.{Sheet}
 use Rattle.rules.specs.declared.Finding.{Finding}
+use Rattle.rules.specs.Units.{hundredths}
 use Rattle.rules.specs.Said.{Said, Case, ruled}
 use Rattle.rules.specs.Lot.{Lot}
 use Rattle.rules.specs.Table.{entries}
@@ -17,9 +19,12 @@ use Rattle.rules.specs.Entries.{column-for, percentages, written}
 
 -- ---- the check: VMA, voids and density as lots, price and quantity, and a sheet
 
--- the PWL of a lot, as its evaluation answers it
+-- the PWL of a lot, as its evaluation answers it, or that refusal
 unfoldable pub pwl-of : Lot → ℤ
 pwl-of lot = percentages nearest (entries (column-for lot)) lot .pwl .0
+
+unfoldable pub pwl-says : Lot → Said Hundredths
+pwl-says lot = ruled (evaluation-meets (column-for lot) lot) (hundredths (pwl-of lot))
 
 module _ (vma voids density : Lot) (price quantity : ℤ) where
   -- the refusals of our own entries: all of the first lot's, all of the second's, all of the third's, and then those of pay

@@ -226,6 +226,12 @@ pub struct Sheet {
     pub pay: Cents,
 }
 
+// The PWL of a lot, alone.
+pub enum PwlAnswer {
+    Answers(Hundredths),
+    Refused(Refusal),
+}
+
 pub enum SheetAnswer {
     Answers(Sheet),
     Refused(Refusal),

@@ -1,15 +1,17 @@
 // The sheet that the rules give for three lots, a price and a quantity.
 use pay::payment;
-use quality::evaluate_held;
+use quality::percentages;
+use quality::with_column;
 use rules::Cents;
-use rules::Evaluation;
 use rules::HeldLot;
 use rules::HundredthTons;
 use rules::Hundredths;
 use rules::PayAnswer;
+use rules::PwlAnswer;
 use rules::Sheet;
 use rules::SheetAnswer;
 use rules::SheetVerdict;
+use rules::TotalsAnswer;
 use rules::Verdict;
 ghost use mathlib.Core.Path.{_≡_};
 ghost use Rattle.rules.specs.Said.{ruled};
@@ -17,8 +19,24 @@ ghost use Rattle.rules.specs.Lot.{lot-in};
 ghost use Rattle.rules.specs.Pay.{payment};
 ghost use Rattle.rules.specs.Sheet.{sheet-verdict, sheet-of};
 ghost use Rattle.rules.specs.Meets.{pay-meets};
-ghost use Rattle.rules.specs.Answers.{sheet-said};
-ghost use Rattle.rules.specs.Check.{ours-says};
+ghost use Rattle.rules.specs.Answers.{pwl-said, sheet-said};
+ghost use Rattle.rules.specs.Check.{pwl-says, ours-says};
+
+// The PWL of a lot in memory, or the refusal that its evaluation meets.
+fn pwl(lot: HeldLot) -> PwlAnswer
+    ensures { λ r. ⌜ pwl-said r ≡ pwl-says (lot-in lot) ⌝ }
+{
+    match with_column(lots::held(lot)) {
+        TotalsAnswer::Refused(refusal) => PwlAnswer::Refused(refusal),
+        TotalsAnswer::Answers(a) => {
+            let upper = lot.upper;
+            let lower = lot.lower;
+            let p = percentages(a, upper, lower);
+            let pwl = p.pwl;
+            PwlAnswer::Answers(pwl)
+        }
+    }
+}
 
 fn verdict(verdict: Verdict) -> SheetVerdict
     ensures { λ r. ⌜ r ≡ sheet-verdict verdict ⌝ }
@@ -67,13 +85,13 @@ pub fn ours(
 ) -> SheetAnswer
     ensures { λ r. ⌜ sheet-said r ≡ ours-says (lot-in vma) (lot-in voids) (lot-in density) (price .0) (quantity .0) ⌝ }
 {
-    match evaluate_held(vma) {
-        Evaluation::Refused(refusal) => SheetAnswer::Refused(refusal),
-        Evaluation::Answers(a) => match evaluate_held(voids) {
-            Evaluation::Refused(refusal) => SheetAnswer::Refused(refusal),
-            Evaluation::Answers(b) => match evaluate_held(density) {
-                Evaluation::Refused(refusal) => SheetAnswer::Refused(refusal),
-                Evaluation::Answers(c) => paid(a.pwl, b.pwl, c.pwl, price, quantity),
+    match pwl(vma) {
+        PwlAnswer::Refused(refusal) => SheetAnswer::Refused(refusal),
+        PwlAnswer::Answers(a) => match pwl(voids) {
+            PwlAnswer::Refused(refusal) => SheetAnswer::Refused(refusal),
+            PwlAnswer::Answers(b) => match pwl(density) {
+                PwlAnswer::Refused(refusal) => SheetAnswer::Refused(refusal),
+                PwlAnswer::Answers(c) => paid(a, b, c, price, quantity),
             },
         },
     }

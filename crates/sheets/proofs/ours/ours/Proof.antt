@@ -1,10 +1,8 @@
 -- The first refusal of the lots is passed on; else it is as the pay says.
-use mathlib.Core.Path.{_≡_, sym, ap, _∙_}
+use mathlib.Core.Path.{sym, ap, _∙_}
 use borrow.Author.Needs.{needs}
-use Rattle.rules.specs.Said.{answers}
 use Rattle.rules.specs.Lot.{lot-in}
 use Rattle.rules.specs.Answers.{pwl-said}
-use Rattle.rules.specs.Check.{pwl-says}
 use Rattle.laws.proofs.OurSheet.{Answered, pwl-refused, pwl-answered, first-lot-refused, second-lot-refused, third-lot-refused, lots-answered}
 use Rattle.sheets.proofs.ours.ours.Statement.{statement}
 use Rattle.sheets.proofs.ours.ours.Tie as tie

@@ -8,7 +8,6 @@ use Rattle.rules.specs.Said.{answers}
 use Rattle.rules.specs.Lot.{most, lot-in}
 use Rattle.rules.specs.Meets.{counted-meets, evaluation-meets}
 use Rattle.rules.specs.Answers.{totals-said}
-use Rattle.rules.specs.Check.{pwl-says}
 use Rattle.laws.specs.Totalled.{with-column-say, totalled, by-table}
 use Rattle.laws.proofs.Accepted.{LotTotalled, totalled-with-column, lot-totalled}
 use Rattle.laws.proofs.Lots.{lot-in-counted}

@@ -6,6 +6,7 @@ import shutil
 import subprocess
 import sys
 import tempfile
+import textwrap
 import unittest
 from pathlib import Path
 
@@ -19,6 +20,12 @@ def fenced(language, holding):
     """The README's one example in a language that holds some words."""
     (found,) = [text for text in re.findall(rf"^```{language}\n(.*?)^```", README, re.M | re.S) if holding in text]
     return found
+
+
+def listed(start):
+    """The README's one text within a list that starts so."""
+    (found,) = [text for text in re.findall(r"^  ```text\n(.*?)^  ```", README, re.M | re.S) if text.startswith(f"  {start}")]
+    return textwrap.dedent(found)
 
 
 PRINTED = fenced("text", "refusal 0")
@@ -56,9 +63,18 @@ class Library(unittest.TestCase):
 
     def test_readme_shows_a_job_that_the_notebook_cuts(self):
         running("target/host/notebook")
-        (command,), (lots,) = re.findall(r"`([^`]* --cut [^`]*)`", README), re.findall(r"^  ```text\n(.*?)^  ```", README, re.M | re.S)
+        (command,) = re.findall(r"`([^`]* --cut [^`]*)`", README)
         shown = ran(["sh", "-c", command])
-        self.assertEqual((shown.stdout, shown.stderr, shown.returncode), (lots.replace("  lot", "lot"), "", 0))
+        self.assertEqual((shown.stdout, shown.stderr, shown.returncode), (listed("lot "), "", 0))
+
+    def test_readme_shows_a_sheet_that_the_notebook_checks(self):
+        running("target/host/notebook")
+        (command,) = re.findall(r"`([^`]* --check [^`]*)`", README)
+        with tempfile.TemporaryDirectory() as folder:
+            sheet = Path(folder, "sheet.txt")
+            sheet.write_text(listed("vma "), "utf-8")
+            shown = ran(["sh", "-c", command.replace(sheet.name, str(sheet))])
+        self.assertEqual((shown.stdout, shown.stderr, shown.returncode), (listed("The sheet "), "", 1))
 
     def test_nothing_is_asked_of_others(self):
         """It has no memory of its own, and calls nothing but what copies bytes: so it keeps and allocates nothing."""

@@ -183,13 +183,18 @@ LOOP(row, struct tulpavice_row,
      a.refusal.number + (uint64_t)bits(a.mean) + (uint64_t)bits(a.deviation) + (uint64_t)bits(a.pwl))
 ANSWER(row, struct tulpavice_row, a.refusal.number, bits(a.mean), bits(a.deviation), bits(a.pwl))
 
-static void show_lot(const struct inputs *inputs, size_t i)
+static void show_held(const struct tulpavice_lot *lot)
 {
-    const struct tulpavice_lot *lot = &inputs->lots[i];
-    printf("upper %" PRId32 " (%" PRIu32 "), lower %" PRId32 " (%" PRIu32 "), room %zu, %" PRIu32 " readings:",
-           lot->upper, lot->upper_present, lot->lower, lot->lower_present, inputs->rooms[i], lot->count);
+    printf("upper %" PRId32 " (%" PRIu32 "), lower %" PRId32 " (%" PRIu32 "), %" PRIu32 " readings:", lot->upper,
+           lot->upper_present, lot->lower, lot->lower_present, lot->count);
     for (uint32_t j = 0; j < lot->count; j++)
         printf(" %" PRId32, lot->readings[j]);
+}
+
+static void show_lot(const struct inputs *inputs, size_t i)
+{
+    printf("room %zu, ", inputs->rooms[i]);
+    show_held(&inputs->lots[i]);
 }
 
 static void show_record(const struct inputs *inputs, size_t i)
@@ -226,11 +231,16 @@ static void show_sheet(const struct tulpavice_sheet *sheet)
 static void show_claim(const struct inputs *inputs, size_t i)
 {
     const struct claim *claim = &inputs->claims[i];
-    printf("sheet ");
+    printf("price %" PRId64 ", quantity %" PRId64 ", sheet ", claim->price, claim->quantity);
     show_sheet(&claim->sheet);
     printf(", other ");
     show_sheet(&claim->other);
-    printf(", room %zu", claim->room);
+    printf(", room %zu; VMA ", claim->room);
+    show_held(&claim->vma);
+    printf("; voids ");
+    show_held(&claim->voids);
+    printf("; density ");
+    show_held(&claim->density);
 }
 
 #define KIND(NAME, SHOW, CALLS) {#NAME, run_##NAME, answer_##NAME, SHOW, CALLS}

@@ -108,10 +108,12 @@ struct tulpavice_percentages plain_evaluate(const int32_t *readings, size_t coun
     return answer;
 }
 
-struct tulpavice_percentages plain_evaluate_lot(struct tulpavice_lot lot)
+static struct tulpavice_percentages evaluate(const struct tulpavice_lot *lot)
 {
-    return plain_evaluate(lot.readings, lot.count, lot.upper, lot.upper_present, lot.lower, lot.lower_present);
+    return plain_evaluate(lot->readings, lot->count, lot->upper, lot->upper_present, lot->lower, lot->lower_present);
 }
+
+struct tulpavice_percentages plain_evaluate_lot(struct tulpavice_lot lot) { return evaluate(&lot); }
 
 struct tulpavice_mean plain_mean(const int32_t *readings, size_t count)
 {
@@ -310,11 +312,6 @@ static bool sheet_refused(const struct tulpavice_sheet *sheet)
     const int64_t greatest = 1000000000000000;
     return outside(sheet->vma, greatest) || outside(sheet->voids, greatest) || outside(sheet->density, greatest) ||
            outside(sheet->composite, greatest) || outside(sheet->verdict, 1) || outside(sheet->pay, greatest);
-}
-
-static struct tulpavice_percentages evaluate(const struct tulpavice_lot *lot)
-{
-    return plain_evaluate(lot->readings, lot->count, lot->upper, lot->upper_present, lot->lower, lot->lower_present);
 }
 
 /* The sheet that the rules give; the refusal, or 0 for none. */

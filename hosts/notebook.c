@@ -28,7 +28,8 @@ static void show_usage(void)
 /* The sheet can be pasted into a file: it is the worked example's. */
 static void show_sheet_help(void)
 {
-    printf("A pay sheet is a file of nine lines, in any order, such as these:\n\n"
+    printf("A pay sheet is a file, or standard input if FILE is -, of nine lines in any\n"
+           "order, such as these:\n\n"
            "    vma       12.30 16.00 13.0 12.5 13.0 13.3 12.9 12.4 13.4 13.0 12.6 12.8\n"
            "    voids     2.65 5.35 4.2 4.5 3.3 5.0 5.4 2.5 3.8 4.1 4.3 4.5\n"
            "    density   91.50 97.00 91.5 93.0 92.9 93.5 93.0 94.0 92.8 93.5 91.0 92.7\n"
@@ -264,7 +265,7 @@ static enum status answer_job(const char *word, int tabs)
     return GOOD;
 }
 
-/* What begins with a minus, and is more, is an option, known or not; a file of such a program has a path, as ./-x. */
+/* What begins with a minus, and is more, is an option, known or not; a file of such a name has a path, as ./-x. */
 static int is_option(const char *word) { return word[0] == '-' && word[1]; }
 
 static enum status answer(int argc, char **argv)

@@ -170,7 +170,7 @@ static void work_out(const struct tulpavice_lot *lots, const int64_t *numbers, i
     entries[5] = paid.pay;
 }
 
-/* Whether a number is refused by itself: where it is asked about, the others are 0. */
+/* Whether a number is refused by itself: it is asked about with 0 for all others. */
 static int is_refused(int at, int64_t number)
 {
     int64_t numbers[NUMBERS] = {0};

@@ -17,7 +17,7 @@
 
 #include "words.h"
 
-/* Shows whether the sheet of a file is right, which is good, and where it differs from what the rules give. Of a file
+/* Shows whether the sheet of a file is right (GOOD), and where it differs from what the rules give. Of a file
    that is no sheet, or one that the library refuses, it tells the first fault alone, since a sheet is one thing. */
 enum status check_sheet(FILE *file, int tabs);
 

@@ -100,7 +100,7 @@ void end_word(struct input *in)
     take_blanks(in);
 }
 
-const char NOT_A_NUMBER[] = "is not a number";
+static const char NOT_A_NUMBER[] = "is not a number";
 
 /* A number that would be too large stays at the most, which is as much out of the library's range. */
 static int64_t with_digit(int64_t number, int digit, int64_t most)

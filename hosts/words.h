@@ -57,8 +57,6 @@ void end_line(struct input *in);
 void start_word(struct input *in, struct word *word);
 void end_word(struct input *in);
 
-extern const char NOT_A_NUMBER[];
-
 /* A number in units of its last decimal, of which it has two or three. One above `most` stays there. Answers what is
    wrong, or NULL. */
 const char *read_number(struct input *in, int decimals, int64_t most, int64_t *read);

@@ -19,7 +19,7 @@
         sheet: an entry below 0 or above 1,000,000,000,000,000, or a verdict that is neither 0 nor 1
     10  no column in Table 106-1, which has those for 2 to 10 readings; only where a percentage is asked for
 
-   The lowest that applies is given, of those that the call can meet, except where lots are cut and where pay sheets are
+   The lowest that applies is given, of those that the call can meet, except where a job is cut and where pay sheets are
    checked or compared: these calls have an order of their own. Each struct that is answered begins with the
    refusal, whose number is 0 for none; of what is refused every other number is 0.
 
@@ -150,8 +150,8 @@ struct tulpavice_sheet {
     int64_t pay;
 };
 
-/* What is found of a sheet: it is accepted (1), or not (0), and then there is a first entry that differs, with the sheet's
-   number and ours. Of an accepted sheet these three are 0. */
+/* What is found of a sheet: it is accepted (1), or not (0). Of one that is neither accepted nor refused there is the first
+   entry that differs, with the sheet's number and ours; of any other these three are 0. */
 struct tulpavice_checked {
     struct tulpavice_refusal refusal;
     uint32_t accepted;

@@ -307,7 +307,7 @@ def changed(rng, sheet, entries):
     return changed
 
 
-# What an entry is taken for and what not; of a verdict, less is.
+# Numbers that an entry is taken with, and that it is not; a verdict is taken with fewer.
 ENTRY_BOUNDS = INT64[0], -1, 0, 1, 2, HUNDRED + 1, MOST_ENTRY - 1, MOST_ENTRY, MOST_ENTRY + 1, INT64[1]
 
 

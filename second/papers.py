@@ -23,6 +23,7 @@ import functools
 import pathlib
 import struct
 import sys
+from collections.abc import Sequence
 from decimal import ROUND_HALF_UP, Decimal
 from typing import NamedTuple
 
@@ -40,7 +41,7 @@ class Lot(NamedTuple):
     upper: int | None
     lower: int | None
     count: int
-    readings: list[int]
+    readings: Sequence[int]
 
 
 def lot_of(upper, upper_present, lower, lower_present, count, readings):
@@ -399,7 +400,7 @@ def answer_check(*given):
 def answer_compare(*given):
     first, second, room = given[:ENTRIES], given[ENTRIES:-1], given[-1]
     refused = refusal(SHEET, first) or refusal(SHEET, second) or refusal(LISTED, first, second, room)
-    return lent_list(refused, 8, room, [(entry, ours - theirs) for entry, ours, theirs in differences(first, second)])
+    return lent_list(refused, 8, room, [(entry, one - other) for entry, one, other in differences(first, second)])
 
 
 ANSWERS = {

@@ -5,7 +5,7 @@ use mathlib.Core.List.{List, [], _∷_, _++_}
 use mathlib.Core.Logic.{_↔_}
 use Prim.Native.Nat.{ℕ}
 use native.Mathlib.Omega.{arith}
-use lib.IntN.{ℤ}
+use lib.IntN.{ℤ, pos}
 use lib.ListN.{length, drop}
 use Rattle.rules.specs.declared.Percentages.{Percentages}
 use Rattle.rules.specs.declared.Payment.{Payment}
@@ -26,11 +26,12 @@ use Rattle.rules.specs.Answers.{check-said, list-said}
 use Rattle.rules.specs.Entries.{evaluation-says, pay-says, written}
 use Rattle.rules.specs.Check.{ours-says, check-says, compare-says, after-compare}
 use Rattle.rules.specs.HostSheet.{host-checked}
-use Rattle.laws.specs.Payable.{Payable}
+use Rattle.laws.specs.Between.{Between}
+use Rattle.laws.specs.Payable.{Percents}
 use Rattle.laws.specs.Sheet.{SheetTaken, Found, IsOurs, AsCompared, given-finding}
 use Rattle.laws.proofs.Ruled.{ruled-answers}
-use Rattle.laws.proofs.Payable.{payable, not-payable-is-refused}
-use Rattle.laws.proofs.OurSheet.{evaluation-refused, evaluation-answered, first-lot-refused, second-lot-refused, third-lot-refused, lots-answered, ours-refused, unfit-is-refused, sheet-is-found, unpaid-sheet, paid-sheet}
+use Rattle.laws.proofs.Payable.{payable, payable-is-paid, not-payable-is-refused}
+use Rattle.laws.proofs.OurSheet.{evaluation-refused, evaluation-answered, answered-in-percent, first-lot-refused, second-lot-refused, third-lot-refused, lots-answered, ours-refused, unfit-is-refused, sheet-is-found, unpaid-sheet, paid-sheet}
 use Rattle.laws.proofs.SheetTaken.{sheet-is-taken, taken-is-no-case, untaken-is-a-case, paid-sheet-is-taken}
 use Rattle.laws.proofs.Sheets.{finding-is-found, found-determined}
 use Rattle.laws.proofs.Given.{checked-given}
@@ -85,6 +86,28 @@ module _ (vma voids density : Lot) (price quantity : ℤ) where
       first (refused r) f = absurd (unlike (first-lot-refused vma voids density price quantity (evaluation-refused vma f)) e)
       first (answers p) f = second p f (evaluation-says voids) refl
 
+  -- It is there for any lots that evaluation answers and any price and quantity in range: the PWLs are.
+  pub ours-is-there :
+      {p q s : Percentages} → evaluation-says vma ≡ answers p → evaluation-says voids ≡ answers q → evaluation-says density ≡ answers s →
+      Between (pos 0) (pos 10000000) price → Between (pos 0) (pos 100000000) quantity →
+      (ours : Sheet) × IsOurs vma voids density price quantity ours
+  ours-is-there {p} {q} {s} a b c in-price in-quantity =
+      let percents : Percents (p .pwl .0) (q .pwl .0) (s .pwl .0) = record { vma = answered-in-percent vma a; voids = answered-in-percent voids b; density = answered-in-percent density c } in
+      let settled = payment (p .pwl .0) (q .pwl .0) (s .pwl .0) price quantity in (
+        sheet-of (p .pwl .0) (q .pwl .0) (s .pwl .0) settled,
+        record {
+          of-vma = p;
+          of-voids = q;
+          of-density = s;
+          vma-answered = a;
+          voids-answered = b;
+          density-answered = c;
+          settled = settled;
+          paid = payable-is-paid _ _ _ _ _ (record { percents = percents; price = in-price; quantity = in-quantity });
+          same = refl;
+        },
+      )
+
   -- It is never refused.
   pub ours-is-taken : {ours : Sheet} → IsOurs vma voids density price quantity ours → SheetTaken ours
   unfolding pay-says
@@ -138,12 +161,12 @@ module _ (vma voids density : Lot) (price quantity : ℤ) where
         pub third-lot-comes-then : {r : Refusal} → evaluation-says density ≡ refused r → check-says vma voids density price quantity sheet ≡ refused r
         third-lot-comes-then e = ours-refused vma voids density price quantity sheet (third-lot-refused vma voids density price quantity (evaluation-answered vma a) (evaluation-answered voids b) (evaluation-refused density e))
 
-        -- a price or a quantity that pay does not take, where it takes the PWLs of all lots
         pub price-and-quantity-follow :
-            {s : Percentages} → evaluation-says density ≡ answers s → ¬ Payable (p .pwl .0) (q .pwl .0) (s .pwl .0) price quantity →
+            {s : Percentages} → evaluation-says density ≡ answers s → ¬ (Between (pos 0) (pos 10000000) price × Between (pos 0) (pos 100000000) quantity) →
             check-says vma voids density price quantity sheet ≡ refused Number
-        price-and-quantity-follow c e =
-            ours-refused vma voids density price quantity sheet (lots-answered vma voids density price quantity (evaluation-answered vma a) (evaluation-answered voids b) (evaluation-answered density c) ∙ unpaid-sheet _ _ _ _ _ (not-payable-is-refused _ _ _ _ _ e))
+        price-and-quantity-follow {s} c e =
+            let unpaid = not-payable-is-refused (p .pwl .0) (q .pwl .0) (s .pwl .0) price quantity (λ h. e (h .price, h .quantity)) in
+            ours-refused vma voids density price quantity sheet (lots-answered vma voids density price quantity (evaluation-answered vma a) (evaluation-answered voids b) (evaluation-answered density c) ∙ unpaid-sheet _ _ _ _ _ unpaid)
 
     pub sheet-comes-last : {ours : Sheet} → IsOurs vma voids density price quantity ours → ¬ SheetTaken sheet → check-says vma voids density price quantity sheet ≡ refused Number
     sheet-comes-last h bad = unfit-is-refused vma voids density price quantity sheet (ours-is-answered h) (untaken-is-a-case sheet bad)

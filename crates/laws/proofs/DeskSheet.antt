@@ -152,7 +152,7 @@ lots-come-in-order = (refl, refl, refl, refl, refl, refl, refl, refl)
 
 -- ---- two sheets compared
 
--- wrong in the composite, by 3, and in the pay, by less than is right
+-- 3 too high in the composite, and 1 too low in the pay
 abbrev other : Sheet
 other = sheet (pos 9751) (pos 9128) (pos 9256) (pos 1001) (pos 0) (pos 63871999)
 

@@ -20,18 +20,22 @@ use Rattle.rules.specs.Sheet.{sheet-of, differences, first-of}
 use Rattle.rules.specs.Refusals.{sheet-case}
 use Rattle.rules.specs.Meets.{pay-meets}
 use Rattle.rules.specs.Answers.{totals-said}
-use Rattle.rules.specs.Entries.{percentages-of, evaluated, evaluation-says, pay-says}
+use Rattle.rules.specs.Entries.{column-for, percentages-of, evaluated, evaluation-says, pay-says}
 use Rattle.rules.specs.Check.{pwl-of, pwl-says, our-meets, our-sheet, ours-says, check-says}
+use Rattle.laws.specs.InPercent.{InPercent}
 use Rattle.laws.specs.Totalled.{lot-totals, totalled, by-table}
 use Rattle.laws.proofs.Ruled.{ruled-none, ruled-met, ruled-passed, ruled-answers, refused-alike, ruled-unrefused, ruled-first, ruled-later, totals-refused}
 use Rattle.laws.proofs.Accepted.{LotTotalled}
+use Rattle.laws.proofs.Nearest.{nearest-row-rule}
+use Rattle.laws.proofs.NoClamp.{pwl-in-percent}
+use Rattle.laws.proofs.EvaluationAnswers.{answered-has-a-column}
 
 -- Of a lot whose PWL is answered no case applies, and this is the PWL.
 pub record Answered (lot : Lot) (pwl : ℤ) : Type 0 where
   pub none : checked (by-table lot) ≡ answers tt
   pub is : pwl-of lot ≡ pwl
 
--- A lot that evaluation refuses has no PWL, for the same refusal, and the other way round; of one that it answers the PWL is the answer's.
+-- A lot that evaluation refuses has no PWL, for the same refusal, and the other way round; of one that it answers the PWL is the answer's, and in range.
 module _ (lot : Lot) where
   pub evaluation-refused : {r : Refusal} → evaluation-says lot ≡ refused r → checked (by-table lot) ≡ refused r
   unfolding evaluation-says evaluated
@@ -40,6 +44,10 @@ module _ (lot : Lot) where
   pub evaluation-answered : {p : Percentages} → evaluation-says lot ≡ answers p → Answered lot (p .pwl .0)
   unfolding evaluation-says evaluated pwl-of
   evaluation-answered e = let h = ruled-answers (by-table lot) _ _ e in record { none = h .0; is = ap (λ (p : Percentages). p .pwl .0) (h .1) }
+
+  pub answered-in-percent : {p : Percentages} → evaluation-says lot ≡ answers p → InPercent (p .pwl .0)
+  unfolding evaluation-says
+  answered-in-percent {p} e = pwl-in-percent nearest (column-for lot) lot p (nearest-row-rule (lot .n)) (answered-has-a-column lot p e) e
 
   pub pwl-refused : {r : Refusal} → pwl-says lot ≡ refused r → checked (by-table lot) ≡ refused r
   unfolding pwl-says

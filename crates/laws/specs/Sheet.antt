@@ -34,7 +34,7 @@ pub record SheetTaken (sheet : Sheet) : Type 0 where
   pub verdict : Between (pos 0) (pos 1) (sheet .verdict .0)
   pub pay : Between (pos 0) greatest-entry (sheet .pay .0)
 
--- the same of a list of numbers, as bounds that keep a difference of two within 64 bits
+-- what that gives for a list of numbers: magnitudes that keep a difference of two within 64 bits
 pub record Entered (numbers : List ℤ) : Type 0 where
   pub bounded : (k : ℕ) → natAbs (getD numbers k (pos 0)) ≤ 1000000000000000
 

@@ -19,10 +19,11 @@ use Rattle.rules.specs.Entries.{column-for, percentages, written}
 
 -- ---- the check: VMA, voids and density as lots, price and quantity, and a sheet
 
--- the PWL of a lot, as its evaluation answers it, or that refusal
+-- the PWL of a lot, as its evaluation answers it
 unfoldable pub pwl-of : Lot → ℤ
 pwl-of lot = percentages nearest (entries (column-for lot)) lot .pwl .0
 
+-- that, or the refusal that the evaluation meets
 unfoldable pub pwl-says : Lot → Said Hundredths
 pwl-says lot = ruled (evaluation-meets (column-for lot) lot) (hundredths (pwl-of lot))
 

@@ -216,7 +216,7 @@ pub enum RowAnswer {
     Refused(Refusal),
 }
 
-// A pay sheet, entries 0 to 5. Any numbers may stand in it; an entry that takes one refuses what is no sheet.
+// A pay sheet, entries 0 to 5. Any numbers may stand in it; `check` and `compare` refuse what is no sheet.
 pub struct Sheet {
     pub vma: Hundredths,
     pub voids: Hundredths,

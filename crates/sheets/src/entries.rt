@@ -84,7 +84,7 @@ fn put(out: &mut [i64], i: usize, entry: i64, difference: i64)
     out[2 * i + 1] = difference;
 }
 
-// Fills in every entry that differs, and by how much.
+// Fills in every entry that differs, and by how much. Inner: `compare` passes the numbers of sheets that are not refused, and a list with room.
 pub fn list(a: [i64; ENTRIES], b: [i64; ENTRIES], out: &mut [i64])
     requires { ⌜ Entered a × Entered b × (2 * length (differing 0 a b) ≤ length (now out)) ⌝ }
     ensures { λ r. ⌜ now (out .exit) ≡ difference-numbers (differing 0 a b) ++ drop (2 * length (differing 0 a b)) (now (out .entry)) ⌝ }

@@ -22,7 +22,8 @@ ghost use Rattle.rules.specs.Meets.{pay-meets};
 ghost use Rattle.rules.specs.Answers.{pwl-said, sheet-said};
 ghost use Rattle.rules.specs.Check.{pwl-says, ours-says};
 
-// The PWL of a lot in memory, or the refusal that its evaluation meets.
+// The PWL of a lot in memory, or the refusal that its evaluation meets: by evaluation's own steps, since a second caller of `evaluate_held` would slow the
+// first (docs/DECISIONS.md).
 fn pwl(lot: HeldLot) -> PwlAnswer
     ensures { λ r. ⌜ pwl-said r ≡ pwl-says (lot-in lot) ⌝ }
 {

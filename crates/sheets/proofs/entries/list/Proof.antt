@@ -136,7 +136,10 @@ loop-again c =
     ⊎-elim
     (λ t.
     let apart : t .2 .result ≡ getD (xs d) (i d) (pos 0) -ℤ getD (ys d) (i d) (pos 0) = simp toZ-ofZ at (t .2 .ensures) in
-    let put = t .3 .ensures ∙ ap₂ (λ (z w : ℤ). set (set (at d .loop .out) (2 * at d .loop .items) z) (2 * at d .loop .items + 1) w) (toZ-pos w64 (omega arith)) (ap (λ (z : ℤ). toZ w64 (ofZ w64 z)) apart ∙ toZ-ofZ h) in
+    let entry : toZ w64 (i d) ≡ pos (i d) = toZ-pos w64 (omega arith) in
+    let difference = ap (λ (z : ℤ). toZ w64 (ofZ w64 z)) apart ∙ toZ-ofZ h in
+    let put : t .3 .last .0 ≡ set (set (at d .loop .out) (2 * at d .loop .items) (pos (i d))) (2 * at d .loop .items + 1) (getD (xs d) (i d) (pos 0) -ℤ getD (ys d) (i d) (pos 0)) =
+    t .3 .ensures ∙ ap₂ (λ (z w : ℤ). set (set (at d .loop .out) (2 * at d .loop .items) z) (2 * at d .loop .items + 1) w) entry difference in
     rw (t .5, t .6) (omega arith, omega arith, one-more d (t .0 .taken), t .3 .kept .0 ∙ at d .loop .inv .3, put ∙ filled d (t .0 .taken)))
     (λ t. rw (t .1, t .2) (omega arith, omega arith, same d (t .0 .left), at d .loop .inv .3, at d .loop .inv .4))
     (c .if1 .came)

@@ -8,7 +8,6 @@ use native.Mathlib.Omega.{arith}
 use lib.IntN.{ℤ, pos}
 use lib.ListN.{length, drop}
 use Rattle.rules.specs.declared.Percentages.{Percentages}
-use Rattle.rules.specs.declared.Payment.{Payment}
 use Rattle.rules.specs.declared.Sheet.{Sheet}
 use Rattle.rules.specs.declared.Difference.{Difference}
 use Rattle.rules.specs.declared.Finding.{Finding}
@@ -19,157 +18,86 @@ use Rattle.rules.specs.declared.Refusal.{Refusal}
 use Rattle.rules.specs.declared.Refusal.the-variants.{Number}
 use Rattle.rules.specs.Said.{Said, refused, answers}
 use Rattle.rules.specs.Lot.{Lot}
-use Rattle.rules.specs.Pay.{payment}
-use Rattle.rules.specs.Sheet.{sheet-of, differences, first-of, difference-numbers}
+use Rattle.rules.specs.Sheet.{differences, first-of, difference-numbers}
 use Rattle.rules.specs.Refusals.{sheet-case}
 use Rattle.rules.specs.Answers.{check-said, list-said}
-use Rattle.rules.specs.Entries.{evaluation-says, pay-says, written}
+use Rattle.rules.specs.Entries.{evaluation-says, written}
 use Rattle.rules.specs.Check.{ours-says, check-says, compare-says, after-compare}
 use Rattle.rules.specs.HostSheet.{host-checked}
 use Rattle.laws.specs.Between.{Between}
-use Rattle.laws.specs.Payable.{Percents}
 use Rattle.laws.specs.Sheet.{SheetTaken, Found, IsOurs, AsCompared, given-finding}
 use Rattle.laws.proofs.Ruled.{ruled-answers}
-use Rattle.laws.proofs.Payable.{payable, payable-is-paid, not-payable-is-refused}
-use Rattle.laws.proofs.OurSheet.{evaluation-refused, evaluation-answered, answered-in-percent, first-lot-refused, second-lot-refused, third-lot-refused, lots-answered, ours-refused, unfit-is-refused, sheet-is-found, unpaid-sheet, paid-sheet}
-use Rattle.laws.proofs.SheetTaken.{sheet-is-taken, taken-is-no-case, untaken-is-a-case, paid-sheet-is-taken}
+use Rattle.laws.proofs.Payable.{not-payable-is-refused}
+use Rattle.laws.proofs.OurSheet.{evaluation-refused, evaluation-answered, first-lot-refused, second-lot-refused, third-lot-refused, ours-refused, unfit-is-refused, sheet-is-found}
+use Rattle.laws.proofs.SheetTaken.{sheet-is-taken, taken-is-no-case, untaken-is-a-case}
+use Rattle.laws.proofs.OurAnswers.{unlike, value, unpaid, ours-is-answered, answered-is-ours, ours-is-taken}
 use Rattle.laws.proofs.Sheets.{finding-is-found, found-determined}
 use Rattle.laws.proofs.Given.{checked-given}
 
--- What is said is a refusal or values, and not both.
-unlike : {A : Type 0} {r : Refusal} {a : A} {s : Said A} → s ≡ refused r → s ≡ answers a → ⊥
-unlike {A} {r} {a} e f = let h : refused r ≡ answers a = sym e ∙ f in let z : _≡_ {A = ℕ} 0 1 = cc in omega arith
-
-abbrev value : {A : Type 0} → A → Said A → A
-value other (refused r) = other
-value other (answers a) = a
-
 module _ (vma voids density : Lot) (price quantity : ℤ) where
+  abbrev Ours : Sheet → Type 0
+  Ours = IsOurs vma voids density price quantity
+
   abbrev ours-said : Said Sheet
   ours-said = ours-says vma voids density price quantity
 
-  -- ---- our own sheet
-
-  pub ours-is-answered : {ours : Sheet} → IsOurs vma voids density price quantity ours → ours-said ≡ answers ours
-  ours-is-answered h =
-      lots-answered vma voids density price quantity (evaluation-answered vma (h .vma-answered)) (evaluation-answered voids (h .voids-answered)) (evaluation-answered density (h .density-answered))
-      ∙ paid-sheet _ _ _ price quantity (h .paid)
-      ∙ ap (λ (sheet : Sheet). answers sheet) (sym (h .same))
-
-  pub answered-is-ours : {ours : Sheet} → ours-said ≡ answers ours → IsOurs vma voids density price quantity ours
-  answered-is-ours {ours} e = first (evaluation-says vma) refl
-    where
-      paid : (p q s : Percentages) → evaluation-says vma ≡ answers p → evaluation-says voids ≡ answers q → evaluation-says density ≡ answers s → (said : Said Payment) → pay-says (p .pwl .0) (q .pwl .0) (s .pwl .0) price quantity ≡ said → IsOurs vma voids density price quantity ours
-      paid p q s a b c (refused r) f = absurd (unlike (lots-answered vma voids density price quantity (evaluation-answered vma a) (evaluation-answered voids b) (evaluation-answered density c) ∙ unpaid-sheet _ _ _ _ _ f) e)
-      paid p q s a b c (answers z) f =
-          record {
-            of-vma = p;
-            of-voids = q;
-            of-density = s;
-            vma-answered = a;
-            voids-answered = b;
-            density-answered = c;
-            settled = z;
-            paid = f;
-            same = ap (value ours) (sym e ∙ lots-answered vma voids density price quantity (evaluation-answered vma a) (evaluation-answered voids b) (evaluation-answered density c) ∙ paid-sheet _ _ _ _ _ f);
-          }
-
-      third : (p q : Percentages) → evaluation-says vma ≡ answers p → evaluation-says voids ≡ answers q → (said : Said Percentages) → evaluation-says density ≡ said → IsOurs vma voids density price quantity ours
-      third p q a b (refused r) f = absurd (unlike (third-lot-refused vma voids density price quantity (evaluation-answered vma a) (evaluation-answered voids b) (evaluation-refused density f)) e)
-      third p q a b (answers s) f = paid p q s a b f (pay-says (p .pwl .0) (q .pwl .0) (s .pwl .0) price quantity) refl
-
-      second : (p : Percentages) → evaluation-says vma ≡ answers p → (said : Said Percentages) → evaluation-says voids ≡ said → IsOurs vma voids density price quantity ours
-      second p a (refused r) f = absurd (unlike (second-lot-refused vma voids density price quantity (evaluation-answered vma a) (evaluation-refused voids f)) e)
-      second p a (answers q) f = third p q a f (evaluation-says density) refl
-
-      first : (said : Said Percentages) → evaluation-says vma ≡ said → IsOurs vma voids density price quantity ours
-      first (refused r) f = absurd (unlike (first-lot-refused vma voids density price quantity (evaluation-refused vma f)) e)
-      first (answers p) f = second p f (evaluation-says voids) refl
-
-  -- It is there for any lots that evaluation answers and any price and quantity in range: the PWLs are.
-  pub ours-is-there :
-      {p q s : Percentages} → evaluation-says vma ≡ answers p → evaluation-says voids ≡ answers q → evaluation-says density ≡ answers s →
-      Between (pos 0) (pos 10000000) price → Between (pos 0) (pos 100000000) quantity →
-      (ours : Sheet) × IsOurs vma voids density price quantity ours
-  ours-is-there {p} {q} {s} a b c in-price in-quantity =
-      let percents : Percents (p .pwl .0) (q .pwl .0) (s .pwl .0) = record { vma = answered-in-percent vma a; voids = answered-in-percent voids b; density = answered-in-percent density c } in
-      let settled = payment (p .pwl .0) (q .pwl .0) (s .pwl .0) price quantity in (
-        sheet-of (p .pwl .0) (q .pwl .0) (s .pwl .0) settled,
-        record {
-          of-vma = p;
-          of-voids = q;
-          of-density = s;
-          vma-answered = a;
-          voids-answered = b;
-          density-answered = c;
-          settled = settled;
-          paid = payable-is-paid _ _ _ _ _ (record { percents = percents; price = in-price; quantity = in-quantity });
-          same = refl;
-        },
-      )
-
-  -- It is never refused.
-  pub ours-is-taken : {ours : Sheet} → IsOurs vma voids density price quantity ours → SheetTaken ours
-  unfolding pay-says
-  ours-is-taken h =
-      let r = ruled-answers _ (payment (h .of-vma .pwl .0) (h .of-voids .pwl .0) (h .of-density .pwl .0) price quantity) _ (h .paid) in
-      let taken = paid-sheet-is-taken (payable _ _ _ _ _ (r .0)) in
-      subst SheetTaken (ap (sheet-of (h .of-vma .pwl .0) (h .of-voids .pwl .0) (h .of-density .pwl .0)) (r .1) ∙ sym (h .same)) taken
-
   module _ (sheet : Sheet) where
+    abbrev finding-said : Said Finding
+    finding-said = check-says vma voids density price quantity sheet
+
     -- ---- what is found
 
     -- A sheet that is taken gets the finding that document 02 asks for,
-    pub check-is-answered : {ours : Sheet} → IsOurs vma voids density price quantity ours → SheetTaken sheet → (f : Finding) → Found sheet ours f → check-says vma voids density price quantity sheet ≡ answers f
+    pub check-is-answered : {ours : Sheet} → Ours ours → SheetTaken sheet → (f : Finding) → Found sheet ours f → finding-said ≡ answers f
     check-is-answered {ours} h taken f found =
-        sheet-is-found vma voids density price quantity sheet (ours-is-answered h) (taken-is-no-case sheet taken)
+        sheet-is-found vma voids density price quantity sheet (ours-is-answered vma voids density price quantity h) (taken-is-no-case sheet taken)
         ∙ ap (λ (g : Finding). answers g) (found-determined sheet ours _ f (finding-is-found sheet ours) found)
 
     -- and whatever is answered is that finding.
     pub answer-is-found :
-        (f : Finding) → check-said (CheckAnswer.Answers f) ≡ check-says vma voids density price quantity sheet →
-        (ours : Sheet) × IsOurs vma voids density price quantity ours × SheetTaken sheet × Found sheet ours f
+        (f : Finding) → check-said (CheckAnswer.Answers f) ≡ finding-said →
+        (ours : Sheet) × Ours ours × SheetTaken sheet × Found sheet ours f
     answer-is-found f e = by ours-said refl
       where
-        met : (ours : Sheet) → ours-said ≡ answers ours → (b : Bool) → sheet-case sheet .applies ≡ b → (ours : Sheet) × IsOurs vma voids density price quantity ours × SheetTaken sheet × Found sheet ours f
+        met : (ours : Sheet) → ours-said ≡ answers ours → (b : Bool) → sheet-case sheet .applies ≡ b → (ours : Sheet) × Ours ours × SheetTaken sheet × Found sheet ours f
         met ours g true k = absurd (unlike (unfit-is-refused vma voids density price quantity sheet g k) (sym e))
         met ours g false k =
             let is : first-of (differences sheet ours) ≡ f = ap (value f) (sym (sheet-is-found vma voids density price quantity sheet g k) ∙ sym e) in
-            (ours, answered-is-ours g, sheet-is-taken sheet k, subst (Found sheet ours) is (finding-is-found sheet ours))
+            (ours, answered-is-ours vma voids density price quantity g, sheet-is-taken sheet k, subst (Found sheet ours) is (finding-is-found sheet ours))
 
-        by : (said : Said Sheet) → ours-said ≡ said → (ours : Sheet) × IsOurs vma voids density price quantity ours × SheetTaken sheet × Found sheet ours f
+        by : (said : Said Sheet) → ours-said ≡ said → (ours : Sheet) × Ours ours × SheetTaken sheet × Found sheet ours f
         by (refused r) g = absurd (unlike (ours-refused vma voids density price quantity sheet g) (sym e))
         by (answers ours) g = met ours g (sheet-case sheet .applies) refl
 
     -- So our own sheet is accepted, and no other is.
-    pub accepted-exactly-ours : (check-says vma voids density price quantity sheet ≡ answers Finding.Accepted) ↔ IsOurs vma voids density price quantity sheet
+    pub accepted-exactly-ours : (finding-said ≡ answers Finding.Accepted) ↔ Ours sheet
     accepted-exactly-ours = (
-      λ e. let h = answer-is-found Finding.Accepted (sym e) in subst (IsOurs vma voids density price quantity) (sym (h .3)) (h .1),
-      λ h. check-is-answered h (ours-is-taken h) Finding.Accepted refl,
+      λ e. let h = answer-is-found Finding.Accepted (sym e) in subst Ours (sym (h .3)) (h .1),
+      λ h. check-is-answered h (ours-is-taken vma voids density price quantity h) Finding.Accepted refl,
     )
 
     -- ---- refusals, in their order
 
-    pub first-lot-comes-first : {r : Refusal} → evaluation-says vma ≡ refused r → check-says vma voids density price quantity sheet ≡ refused r
+    pub first-lot-comes-first : {r : Refusal} → evaluation-says vma ≡ refused r → finding-said ≡ refused r
     first-lot-comes-first e = ours-refused vma voids density price quantity sheet (first-lot-refused vma voids density price quantity (evaluation-refused vma e))
 
     module _ {p : Percentages} (a : evaluation-says vma ≡ answers p) where
-      pub second-lot-comes-next : {r : Refusal} → evaluation-says voids ≡ refused r → check-says vma voids density price quantity sheet ≡ refused r
+      pub second-lot-comes-next : {r : Refusal} → evaluation-says voids ≡ refused r → finding-said ≡ refused r
       second-lot-comes-next e = ours-refused vma voids density price quantity sheet (second-lot-refused vma voids density price quantity (evaluation-answered vma a) (evaluation-refused voids e))
 
       module _ {q : Percentages} (b : evaluation-says voids ≡ answers q) where
-        pub third-lot-comes-then : {r : Refusal} → evaluation-says density ≡ refused r → check-says vma voids density price quantity sheet ≡ refused r
+        pub third-lot-comes-then : {r : Refusal} → evaluation-says density ≡ refused r → finding-said ≡ refused r
         third-lot-comes-then e = ours-refused vma voids density price quantity sheet (third-lot-refused vma voids density price quantity (evaluation-answered vma a) (evaluation-answered voids b) (evaluation-refused density e))
 
         pub price-and-quantity-follow :
             {s : Percentages} → evaluation-says density ≡ answers s → ¬ (Between (pos 0) (pos 10000000) price × Between (pos 0) (pos 100000000) quantity) →
-            check-says vma voids density price quantity sheet ≡ refused Number
+            finding-said ≡ refused Number
         price-and-quantity-follow {s} c e =
-            let unpaid = not-payable-is-refused (p .pwl .0) (q .pwl .0) (s .pwl .0) price quantity (λ h. e (h .price, h .quantity)) in
-            ours-refused vma voids density price quantity sheet (lots-answered vma voids density price quantity (evaluation-answered vma a) (evaluation-answered voids b) (evaluation-answered density c) ∙ unpaid-sheet _ _ _ _ _ unpaid)
+            let number = not-payable-is-refused (p .pwl .0) (q .pwl .0) (s .pwl .0) price quantity (λ h. e (h .price, h .quantity)) in
+            ours-refused vma voids density price quantity sheet (unpaid vma voids density price quantity a b c number)
 
-    pub sheet-comes-last : {ours : Sheet} → IsOurs vma voids density price quantity ours → ¬ SheetTaken sheet → check-says vma voids density price quantity sheet ≡ refused Number
-    sheet-comes-last h bad = unfit-is-refused vma voids density price quantity sheet (ours-is-answered h) (untaken-is-a-case sheet bad)
+    pub sheet-comes-last : {ours : Sheet} → Ours ours → ¬ SheetTaken sheet → finding-said ≡ refused Number
+    sheet-comes-last h bad = unfit-is-refused vma voids density price quantity sheet (ours-is-answered vma voids density price quantity h) (untaken-is-a-case sheet bad)
 
 -- ---- the check as a comparison with our own sheet
 

@@ -1,5 +1,5 @@
 -- The differences of two lists of numbers, an entry at a time, as a loop goes through them.
-use mathlib.Core.Path.{_≡_, refl, sym, ap, ap₂, _∙_}
+use mathlib.Core.Path.{_≡_, refl, sym, ap, ap₂, subst⁻¹, _∙_}
 use mathlib.Core.Bool.{Bool, true, false, cond, or-comm, true≢false}
 use mathlib.Core.List.{List, [], _∷_, _++_}
 use Prim.Native.Nat.{ℕ, zero, suc, _+_, _*_, _≤_, _<_}
@@ -36,26 +36,38 @@ unfolding difference-numbers
 length-differences [] = refl
 length-differences (d ∷ ds) = omega (arith, length-differences ds)
 
--- The first of two numbers, and what comes after it, where they differ and where they do not.
-module _ (k : ℕ) (x y : ℤ) (xs ys : List ℤ) where
-  pub differs-here : differ x y ≡ true → differing k (x ∷ xs) (y ∷ ys) ≡ record { entry = k; first = x; second = y } ∷ differing (suc k) xs ys
-  unfolding differing
-  differs-here e = ap (λ b. cond b (record { entry = k; first = x; second = y } ∷ differing (suc k) xs ys) (differing (suc k) xs ys)) e
+abbrev pub difference : ℕ → ℤ → ℤ → Difference
+difference k x y = record { entry = k; first = x; second = y }
 
-  pub same-here : differ x y ≡ false → differing k (x ∷ xs) (y ∷ ys) ≡ differing (suc k) xs ys
+-- The first number of each list, and what comes after it, where the two differ and where they do not.
+module _ (k : ℕ) (x y : ℤ) (xs ys : List ℤ) where
+  abbrev rest : List Difference
+  rest = differing (suc k) xs ys
+
+  pub differs-here : differ x y ≡ true → differing k (x ∷ xs) (y ∷ ys) ≡ difference k x y ∷ rest
   unfolding differing
-  same-here e = ap (λ b. cond b (record { entry = k; first = x; second = y } ∷ differing (suc k) xs ys) (differing (suc k) xs ys)) e
+  differs-here e = ap (λ b. cond b (difference k x y ∷ rest) rest) e
+
+  pub same-here : differ x y ≡ false → differing k (x ∷ xs) (y ∷ ys) ≡ rest
+  unfolding differing
+  same-here e = ap (λ b. cond b (difference k x y ∷ rest) rest) e
+
+  -- So whatever holds in both cases holds.
+  pub here-or-later : (P : List Difference → Type 0) → (differ x y ≡ true → P (difference k x y ∷ rest)) → (differ x y ≡ false → P rest) → P (differing k (x ∷ xs) (y ∷ ys))
+  here-or-later P differs same = by (differ x y) refl
+    where
+      by : (b : Bool) → differ x y ≡ b → P (differing k (x ∷ xs) (y ∷ ys))
+      by true e = subst⁻¹ P (differs-here e) (differs e)
+      by false e = subst⁻¹ P (same-here e) (same e)
 
 -- There are no more differences than entries.
 pub no-more-differences : (k : ℕ) (xs ys : List ℤ) → length (differing k xs ys) ≤ length xs
 unfolding differing
 no-more-differences k [] ys = omega arith
 no-more-differences k (x ∷ xs) [] = omega arith
-no-more-differences k (x ∷ xs) (y ∷ ys) = by (differ x y) (no-more-differences (suc k) xs ys)
-  where
-    by : (b : Bool) → length (differing (suc k) xs ys) ≤ length xs → length (cond b (record { entry = k; first = x; second = y } ∷ differing (suc k) xs ys) (differing (suc k) xs ys)) ≤ suc (length xs)
-    by true later = omega arith
-    by false later = omega arith
+no-more-differences k (x ∷ xs) (y ∷ ys) =
+    let later = no-more-differences (suc k) xs ys in
+    here-or-later k x y xs ys (λ ds. length ds ≤ suc (length xs)) (λ e. omega arith) (λ e. omega arith)
 
 -- Where something is left after so many, there are more, and one more leaves what follows.
 after-one : {A : Type 0} (n : ℕ) (zs : List A) {z : A} {rest : List A} → drop n zs ≡ z ∷ rest → (n < length zs) × (drop (suc n) zs ≡ rest)
@@ -77,9 +89,6 @@ module _ (xs ys : List ℤ) where
 
   -- Entry i, where the two numbers are the same and where they differ.
   module _ (i items : ℕ) (here : i < length xs) (there : i < length ys) (p : Passed xs ys i items) where
-    abbrev named : Difference
-    named = record { entry = i; first = getD xs i (pos 0); second = getD ys i (pos 0) }
-
     lists : differing i (drop i xs) (drop i ys) ≡ differing i (getD xs i (pos 0) ∷ drop (suc i) xs) (getD ys i (pos 0) ∷ drop (suc i) ys)
     lists = ap₂ (differing i) (drop-cons xs i (pos 0) here) (drop-cons ys i (pos 0) there)
 
@@ -88,7 +97,7 @@ module _ (xs ys : List ℤ) where
 
     module _ (e : differ (getD xs i (pos 0)) (getD ys i (pos 0)) ≡ true) where
       -- It is the next difference,
-      pub next-difference : drop items all ≡ named ∷ differing (suc i) (drop (suc i) xs) (drop (suc i) ys)
+      pub next-difference : drop items all ≡ difference i (getD xs i (pos 0)) (getD ys i (pos 0)) ∷ differing (suc i) (drop (suc i) xs) (drop (suc i) ys)
       next-difference = p .left ∙ lists ∙ differs-here i _ _ _ _ e
 
       pub difference-is-there : items < length all

@@ -64,6 +64,7 @@ pub mod OurSheet
 pub mod SheetTaken
 pub mod Sheets
 pub mod CompareAnswers
+pub mod OurAnswers
 pub mod CheckAnswers
 pub mod DeskSheet
 pub mod DeskJob

@@ -1,7 +1,7 @@
 -- A sheet is refused exactly when an entry is below 0 or above 1,000,000,000,000,000, or its verdict is neither 0 nor 1; and ours never is.
 use mathlib.Core.Path.{_≡_, refl}
 use mathlib.Core.Bool.{Bool, true, false, _||_}
-use Prim.Native.Nat.{ℕ, zero, suc, _+_, _*_, _≤_}
+use Prim.Native.Nat.{ℕ, zero, suc, _+_, _*_, _≤_, zero-le}
 use native.Mathlib.Nat.{mul-le-mul}
 use native.Mathlib.Omega.{arith}
 use lib.IntN.{ℤ, pos, negsuc, natAbs}
@@ -16,7 +16,7 @@ use Rattle.rules.specs.Sheet.{verdict-number, sheet-numbers, sheet-of}
 use Rattle.rules.specs.Refusals.{outside, greatest-entry, sheet-case}
 use Rattle.laws.specs.Between.{Between}
 use Rattle.laws.specs.Payable.{Priced, Payable}
-use Rattle.laws.specs.Sheet.{SheetTaken, Entered}
+use Rattle.laws.specs.Sheet.{quadrillion, SheetTaken, Entered}
 use Rattle.laws.proofs.Tests.{neither}
 use Rattle.laws.proofs.Between.{inside, not-outside, between-magnitude}
 use Rattle.laws.proofs.Composite.{composite-lies-between}
@@ -59,7 +59,7 @@ module _ (s : Sheet) where
   unfolding sheet-numbers
   taken-is-entered h = record { bounded = at }
     where
-      at : (k : ℕ) → natAbs (getD (sheet-numbers s) k (pos 0)) ≤ 1000000000000000
+      at : (k : ℕ) → natAbs (getD (sheet-numbers s) k (pos 0)) ≤ quadrillion
       at zero = between-magnitude (h .vma)
       at (suc zero) = between-magnitude (h .voids)
       at (suc (suc zero)) = between-magnitude (h .density)
@@ -70,8 +70,9 @@ module _ (s : Sheet) where
 
 -- ---- the sheet that our rules give is taken
 
-wider-between : {least greatest : ℕ} {z : ℤ} (low high : ℕ) → low ≤ least → greatest ≤ high → Between (pos least) (pos greatest) z → Between (pos low) (pos high) z
-wider-between low high h k b = record { low = ≤ℤ-trans (pos-mono h) (b .low); high = ≤ℤ-trans (b .high) (pos-mono k) }
+-- A number of narrower bounds is one that an entry may have.
+as-entry : {least greatest : ℕ} {z : ℤ} → greatest ≤ quadrillion → Between (pos least) (pos greatest) z → Between (pos 0) (pos quadrillion) z
+as-entry h b = record { low = ≤ℤ-trans (pos-mono zero-le) (b .low); high = ≤ℤ-trans (b .high) (pos-mono h) }
 
 -- No more is paid than 10,000,000 × 100,000,000 × 1,030 over 100,000.
 pub final-pay-lies-between : {p q c : ℤ} → Priced p q c → Between (pos 0) (pos 10300000000000) (final-pay p q c)
@@ -96,10 +97,10 @@ unfolding payment
 paid-sheet-is-taken {a} {b} {c} {p} {q} h =
     let between = composite-lies-between (h .percents) in
     record {
-      vma = wider-between 0 1000000000000000 (omega arith) (omega arith) (h .percents .vma);
-      voids = wider-between 0 1000000000000000 (omega arith) (omega arith) (h .percents .voids);
-      density = wider-between 0 1000000000000000 (omega arith) (omega arith) (h .percents .density);
-      composite = wider-between 0 1000000000000000 (omega arith) (omega arith) between;
+      vma = as-entry (omega arith) (h .percents .vma);
+      voids = as-entry (omega arith) (h .percents .voids);
+      density = as-entry (omega arith) (h .percents .density);
+      composite = as-entry (omega arith) between;
       verdict = verdict-lies-between (payment a b c p q .lot);
-      pay = wider-between 0 1000000000000000 (omega arith) (omega arith) (final-pay-lies-between (record { price = h .price; quantity = h .quantity; composite = between }));
+      pay = as-entry (omega arith) (final-pay-lies-between (record { price = h .price; quantity = h .quantity; composite = between }));
     }

@@ -1,7 +1,7 @@
 -- Two sheets: which entries are listed, which one is named, and what it means that none is. Shown of two lists of as many numbers, the first of which is
 -- entry k; a sheet is such a list.
 use mathlib.Core.Path.{_≡_, refl, sym, ap, ap₂, subst, subst⁻¹, _∙_}
-use mathlib.Core.Bool.{Bool, true, false, cond}
+use mathlib.Core.Bool.{true}
 use mathlib.Core.List.{List, [], _∷_, map, List·Memᴰ, List·Memᴰ·head, List·Memᴰ·tail, List·Memᴰ·cases-cons, List·Memᴰ·not-nil}
 use mathlib.Core.Logic.{_↔_, ⊎-elim}
 use Prim.Native.Nat.{ℕ, zero, suc, _+_, _≤_, _<_}
@@ -15,7 +15,7 @@ use Rattle.rules.specs.declared.Finding.{Finding}
 use Rattle.rules.specs.Sheet.{sheet-numbers, differ, differing, differences, first-of, difference-numbers}
 use Rattle.laws.specs.Sheet.{number-at, DiffersAt, FirstDiffers, Found, InOrder, turned, all-turned}
 use Rattle.laws.proofs.Tests.{at-least-or-below}
-use Rattle.laws.proofs.Differences.{differ-true, differ-false, differ-turned}
+use Rattle.laws.proofs.Differences.{differ-true, differ-false, differ-turned, difference, differs-here, same-here, here-or-later}
 
 -- ---- two lists of numbers
 
@@ -40,10 +40,7 @@ FoundIn k xs ys Finding.Accepted = xs ≡ ys
 FoundIn k xs ys (Finding.Differs d) = FirstOf k xs ys d
 
 module _ (k : ℕ) (x y : ℤ) (xs ys : List ℤ) where
-  abbrev head : Difference
-  head = record { entry = k; first = x; second = y }
-
-  at-head : differ x y ≡ true → Differs k (x ∷ xs) (y ∷ ys) head
+  at-head : differ x y ≡ true → Differs k (x ∷ xs) (y ∷ ys) (difference k x y)
   at-head e = record { j = 0; entry = omega arith; within = omega arith; of-first = refl; of-second = refl; differ = differ-true x y e }
 
   -- What holds of the rest holds of the whole.
@@ -60,21 +57,13 @@ module _ (k : ℕ) (x y : ℤ) (xs ys : List ℤ) where
       before (suc m) less = h .before m (omega arith)
 
   -- A difference of the whole is at its head, or it is one of the rest.
-  head-or-later : {d : Difference} → Differs k (x ∷ xs) (y ∷ ys) d → {X : Type 0} → (d ≡ head → ¬ (x ≡ y) → X) → (Differs (suc k) xs ys d → X) → X
+  head-or-later : {d : Difference} → Differs k (x ∷ xs) (y ∷ ys) d → {X : Type 0} → (d ≡ difference k x y → ¬ (x ≡ y) → X) → (Differs (suc k) xs ys d → X) → X
   head-or-later {d} h {X} first rest = by (h .j) (h .entry) (h .within) (h .of-first) (h .of-second)
     where
       by : (j : ℕ) → d .entry ≡ k + j → j < suc (length xs) → at (x ∷ xs) j ≡ d .first → at (y ∷ ys) j ≡ d .second → X
       by zero e less p q =
-          first (λ i. record { entry = here i; first = p′ i; second = q′ i }) (λ same. h .differ (sym p ∙ same ∙ q))
-        where
-          here : d .entry ≡ k
-          here = omega arith
-
-          p′ : d .first ≡ x
-          p′ = sym p
-
-          q′ : d .second ≡ y
-          q′ = sym q
+          let here : d .entry ≡ k = omega arith in
+          first (λ i. difference (here i) (sym p i) (sym q i)) (λ same. h .differ (sym p ∙ same ∙ q))
       by (suc j) e less p q = rest (record { j = j; entry = omega arith; within = omega arith; of-first = p; of-second = q; differ = h .differ })
 
 found-in : (k : ℕ) (xs ys : List ℤ) → length xs ≡ length ys → FoundIn k xs ys (first-of (differing k xs ys))
@@ -82,40 +71,33 @@ unfolding differing first-of at-head
 found-in k [] [] e = refl
 found-in k [] (y ∷ ys) e = absurd (omega arith)
 found-in k (x ∷ xs) [] e = absurd (omega arith)
-found-in k (x ∷ xs) (y ∷ ys) e = by (differ x y) refl (found-in (suc k) xs ys (omega arith))
-  where
-    by :
-        (b : Bool) → differ x y ≡ b → FoundIn (suc k) xs ys (first-of (differing (suc k) xs ys)) →
-        FoundIn k (x ∷ xs) (y ∷ ys) (first-of (cond b (record { entry = k; first = x; second = y } ∷ differing (suc k) xs ys) (differing (suc k) xs ys)))
-    by true d rest = record { here = at-head k x y xs ys d; before = λ m less. absurd (omega arith) }
-    by false d rest = later-found k x y xs ys (differ-false x y d) (first-of (differing (suc k) xs ys)) rest
+found-in k (x ∷ xs) (y ∷ ys) e =
+    here-or-later k x y xs ys (λ ds. FoundIn k (x ∷ xs) (y ∷ ys) (first-of ds))
+    (λ d. record { here = at-head k x y xs ys d; before = λ m less. absurd (omega arith) })
+    (λ d. later-found k x y xs ys (differ-false x y d) (first-of (differing (suc k) xs ys)) (found-in (suc k) xs ys (omega arith)))
 
 -- Each difference that is listed is one,
 listed-in : (k : ℕ) (xs ys : List ℤ) (d : Difference) → List·Memᴰ d (differing k xs ys) → Differs k xs ys d
 unfolding differing
 listed-in k [] ys d m = absurd (List·Memᴰ·not-nil m)
 listed-in k (x ∷ xs) [] d m = absurd (List·Memᴰ·not-nil m)
-listed-in k (x ∷ xs) (y ∷ ys) d m = by (differ x y) refl (listed-in (suc k) xs ys d) m
-  where
-    by :
-        (b : Bool) → differ x y ≡ b → (List·Memᴰ d (differing (suc k) xs ys) → Differs (suc k) xs ys d) →
-        List·Memᴰ d (cond b (record { entry = k; first = x; second = y } ∷ differing (suc k) xs ys) (differing (suc k) xs ys)) → Differs k (x ∷ xs) (y ∷ ys) d
-    by true e rest m =
-        ⊎-elim (λ same. subst⁻¹ (Differs k (x ∷ xs) (y ∷ ys)) same (at-head k x y xs ys e)) (λ m′. later k x y xs ys (rest m′)) (List·Memᴰ·cases-cons m)
-    by false e rest m = later k x y xs ys (rest m)
+listed-in k (x ∷ xs) (y ∷ ys) d m =
+    let rest : List·Memᴰ d (differing (suc k) xs ys) → Differs k (x ∷ xs) (y ∷ ys) d = λ n. later k x y xs ys (listed-in (suc k) xs ys d n) in
+    here-or-later k x y xs ys (λ ds. List·Memᴰ d ds → Differs k (x ∷ xs) (y ∷ ys) d)
+    (λ e n. ⊎-elim (λ same. subst⁻¹ (Differs k (x ∷ xs) (y ∷ ys)) same (at-head k x y xs ys e)) rest (List·Memᴰ·cases-cons n))
+    (λ e. rest)
+    m
 
 -- and each that there is, is listed.
 in-list : (k : ℕ) (xs ys : List ℤ) → length xs ≡ length ys → (d : Difference) → Differs k xs ys d → List·Memᴰ d (differing k xs ys)
 unfolding differing
 in-list k [] ys e d h = absurd (omega (arith, h .within))
 in-list k (x ∷ xs) [] e d h = absurd (omega arith)
-in-list k (x ∷ xs) (y ∷ ys) e d h = by (differ x y) refl (in-list (suc k) xs ys (omega arith) d)
-  where
-    by :
-        (b : Bool) → differ x y ≡ b → (Differs (suc k) xs ys d → List·Memᴰ d (differing (suc k) xs ys)) →
-        List·Memᴰ d (cond b (record { entry = k; first = x; second = y } ∷ differing (suc k) xs ys) (differing (suc k) xs ys))
-    by true t rest = head-or-later k x y xs ys h (λ same unlike. List·Memᴰ·head same) (λ more. List·Memᴰ·tail (rest more))
-    by false t rest = head-or-later k x y xs ys h (λ same unlike. absurd (unlike (differ-false x y t))) rest
+in-list k (x ∷ xs) (y ∷ ys) e d h =
+    let rest = in-list (suc k) xs ys (omega arith) d in
+    here-or-later k x y xs ys (List·Memᴰ d)
+    (λ t. head-or-later k x y xs ys h (λ same unlike. List·Memᴰ·head same) (λ more. List·Memᴰ·tail (rest more)))
+    (λ t. head-or-later k x y xs ys h (λ same unlike. absurd (unlike (differ-false x y t))) rest)
 
 -- They stand in the order of their entries.
 later-order : (k : ℕ) (ds : List Difference) → InOrder (suc k) ds → InOrder k ds
@@ -126,11 +108,9 @@ in-order-from : (k : ℕ) (xs ys : List ℤ) → InOrder k (differing k xs ys)
 unfolding differing
 in-order-from k [] ys = tt
 in-order-from k (x ∷ xs) [] = tt
-in-order-from k (x ∷ xs) (y ∷ ys) = by (differ x y) (in-order-from (suc k) xs ys)
-  where
-    by : (b : Bool) → InOrder (suc k) (differing (suc k) xs ys) → InOrder k (cond b (record { entry = k; first = x; second = y } ∷ differing (suc k) xs ys) (differing (suc k) xs ys))
-    by true rest = (omega arith, rest)
-    by false rest = later-order k (differing (suc k) xs ys) rest
+in-order-from k (x ∷ xs) (y ∷ ys) =
+    let rest = in-order-from (suc k) xs ys in
+    here-or-later k x y xs ys (InOrder k) (λ e. (omega arith, rest)) (λ e. later-order k (differing (suc k) xs ys) rest)
 
 -- Of the lists exchanged the differences are the same, exchanged.
 turned-from : (k : ℕ) (xs ys : List ℤ) → differing k ys xs ≡ map turned (differing k xs ys)
@@ -138,14 +118,11 @@ unfolding differing
 turned-from k [] [] = refl
 turned-from k [] (y ∷ ys) = refl
 turned-from k (x ∷ xs) [] = refl
-turned-from k (x ∷ xs) (y ∷ ys) = ap (λ (b : Bool). cond b (record { entry = k; first = y; second = x } ∷ differing (suc k) ys xs) (differing (suc k) ys xs)) (differ-turned x y) ∙ by (differ x y) (turned-from (suc k) xs ys)
-  where
-    by :
-        (b : Bool) → differing (suc k) ys xs ≡ map turned (differing (suc k) xs ys) →
-        cond b (record { entry = k; first = y; second = x } ∷ differing (suc k) ys xs) (differing (suc k) ys xs) ≡
-        map turned (cond b (record { entry = k; first = x; second = y } ∷ differing (suc k) xs ys) (differing (suc k) xs ys))
-    by true rest = ap (λ (ds : List Difference). record { entry = k; first = y; second = x } ∷ ds) rest
-    by false rest = rest
+turned-from k (x ∷ xs) (y ∷ ys) =
+    let rest = turned-from (suc k) xs ys in
+    here-or-later k x y xs ys (λ ds. differing k (y ∷ ys) (x ∷ xs) ≡ map turned ds)
+    (λ e. differs-here k y x ys xs (differ-turned x y ∙ e) ∙ ap (λ (ds : List Difference). difference k y x ∷ ds) rest)
+    (λ e. same-here k y x ys xs (differ-turned x y ∙ e) ∙ rest)
 
 pub turned-numbers : (ds : List Difference) → difference-numbers (map turned ds) ≡ all-turned (difference-numbers ds)
 unfolding difference-numbers all-turned
@@ -232,7 +209,7 @@ module _ (a b : Sheet) where
       let same : d .entry ≡ e .entry = omega (arith, not-before d e (h .here) k, not-before e d (k .here) h) in
       let first : d .first ≡ e .first = sym (h .here .of-first) ∙ ap (number-at a) same ∙ k .here .of-first in
       let second : d .second ≡ e .second = sym (h .here .of-second) ∙ ap (number-at b) same ∙ k .here .of-second in
-      λ i. Finding.Differs (record { entry = same i; first = first i; second = second i })
+      λ i. Finding.Differs (difference (same i) (first i) (second i))
 
   -- Two sheets are equal exactly when nothing is listed.
   pub equal-exactly-when-none-is-listed : (a ≡ b) ↔ (differences a b ≡ [])

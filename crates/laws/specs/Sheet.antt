@@ -15,7 +15,6 @@ use Rattle.rules.specs.declared.host.HostChecked.{HostChecked}
 use Rattle.rules.specs.Said.{answers}
 use Rattle.rules.specs.Lot.{Lot}
 use Rattle.rules.specs.Sheet.{sheet-numbers, sheet-of, differing, differences, difference-numbers}
-use Rattle.rules.specs.Refusals.{greatest-entry}
 use Rattle.rules.specs.Entries.{evaluation-says, pay-says}
 use Rattle.laws.specs.Between.{Between}
 
@@ -25,18 +24,22 @@ use Rattle.laws.specs.Between.{Between}
 abbrev pub number-at : Sheet → ℕ → ℤ
 number-at sheet k = getD (sheet-numbers sheet) k (pos 0)
 
+-- the most that an entry may be
+abbrev pub quadrillion : ℕ
+quadrillion = 1000000000000000
+
 -- A sheet that is not refused: its entries are from 0 to 1,000,000,000,000,000, and its verdict is 0 or 1.
 pub record SheetTaken (sheet : Sheet) : Type 0 where
-  pub vma : Between (pos 0) greatest-entry (sheet .vma .0)
-  pub voids : Between (pos 0) greatest-entry (sheet .voids .0)
-  pub density : Between (pos 0) greatest-entry (sheet .density .0)
-  pub composite : Between (pos 0) greatest-entry (sheet .composite .0)
+  pub vma : Between (pos 0) (pos quadrillion) (sheet .vma .0)
+  pub voids : Between (pos 0) (pos quadrillion) (sheet .voids .0)
+  pub density : Between (pos 0) (pos quadrillion) (sheet .density .0)
+  pub composite : Between (pos 0) (pos quadrillion) (sheet .composite .0)
   pub verdict : Between (pos 0) (pos 1) (sheet .verdict .0)
-  pub pay : Between (pos 0) greatest-entry (sheet .pay .0)
+  pub pay : Between (pos 0) (pos quadrillion) (sheet .pay .0)
 
 -- what that gives for a list of numbers: magnitudes that keep a difference of two within 64 bits
 pub record Entered (numbers : List ℤ) : Type 0 where
-  pub bounded : (k : ℕ) → natAbs (getD numbers k (pos 0)) ≤ 1000000000000000
+  pub bounded : (k : ℕ) → natAbs (getD numbers k (pos 0)) ≤ quadrillion
 
 -- ---- two sheets
 

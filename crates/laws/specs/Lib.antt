@@ -27,6 +27,7 @@ pub mod Bytes
 pub mod Head
 pub mod Desk
 pub mod Tried
+pub mod StoreWalk
 pub mod Totalled
 pub mod Job
 pub mod Sheet

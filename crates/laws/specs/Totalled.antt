@@ -9,15 +9,17 @@ use Rattle.rules.specs.declared.Thousandths.{Thousandths}
 use Rattle.rules.specs.declared.Limit.{Limit}
 use Rattle.rules.specs.declared.Limit.the-variants.{Absent}
 use Rattle.rules.specs.declared.Totals.{Totals}
-use Rattle.rules.specs.declared.Refusal.the-variants.{Range}
+use Rattle.rules.specs.declared.ColumnAnswer.{ColumnAnswer}
+use Rattle.rules.specs.declared.store.Named.{Named}
+use Rattle.rules.specs.declared.Refusal.the-variants.{Range, Unsound}
 use Rattle.rules.specs.Units.{in-range}
 use Rattle.rules.specs.Said.{Said, refused, answers, Case, ruled}
 use Rattle.rules.specs.Lot.{Lot, in-places}
 use Rattle.rules.specs.Percent.{totals}
 use Rattle.rules.specs.Refusals.{out-of-range, any-out, range-case}
-use Rattle.rules.specs.Table.{table-106-1}
+use Rattle.rules.specs.Table.{Table}
 use Rattle.rules.specs.Meets.{readings-meet, limits-meet, column-meets, evaluation-meets, row-meets}
-use Rattle.rules.specs.Entries.{column-for}
+use Rattle.laws.specs.StoreWalk.{table-at}
 
 -- One reading x more in T and Z; n, the count of all readings, stays.
 abbrev pub with-reading : Totals → ℤ → Totals
@@ -49,10 +51,21 @@ unfoldable pub with-limits-say : Limit → Limit → Said Totals → Said Totals
 with-limits-say upper lower said =
     cond (out-of-range upper || out-of-range lower) (refused Range) (limited-say upper lower said)
 
--- Where a percentage is asked for, after all else: the refusal if there is one, then refusal 10 where Table 106-1 has no column for n, else the totals.
-abbrev pub with-column-say : Said Totals → Said Totals
-with-column-say (refused r) = refused r
-with-column-say (answers a) = ruled (column-meets (table-106-1 (a .n))) a
+-- Where a percentage is asked for, after all else: the refusal if there is one, then refusal 13 or 10 by what the table has for n, else the totals.
+abbrev pub found-say : Table → Said Totals → Said Totals
+found-say table (refused r) = refused r
+found-say table (answers a) = ruled (column-meets (table (a .n))) a
+
+-- The same, where an edition was named in a store: 11 comes before whatever is said of the lot.
+abbrev pub with-column-say : Named → List ℕ → Said Totals → Said Totals
+with-column-say Named.Unsound s said = refused Unsound
+with-column-say Named.Unknown s said = found-say (table-at Named.Unknown s) said
+with-column-say (Named.Starts start) s said = found-say (table-at (Named.Starts start) s) said
+
+-- what is said of totals that stand beside the place of a column
+abbrev pub columned-said : ColumnAnswer → Said Totals
+columned-said (ColumnAnswer.Answers c) = answers (c .totals)
+columned-said (ColumnAnswer.Refused r) = refused r
 
 -- A lot's totals, and what is said of them: the first refusal that applies of the cases `meets lot`, or the totals.
 abbrev pub lot-totals : Lot → Totals
@@ -61,9 +74,9 @@ lot-totals lot = totals (lot .n) (lot .readings)
 unfoldable pub totalled : (Lot → List Case) → Lot → Said Totals
 totalled meets lot = ruled (meets lot) (lot-totals lot)
 
--- What an evaluation by Table 106-1 meets, and what the row of some bytes meets by it.
-abbrev pub by-table : Lot → List Case
-by-table lot = evaluation-meets (column-for lot) lot
+-- What an evaluation by a table meets, and what the row of some bytes meets by it.
+abbrev pub by-table : Table → Lot → List Case
+by-table table lot = evaluation-meets (table (lot .n)) lot
 
-abbrev pub row-by-table : List ℕ → Lot → List Case
-row-by-table bs lot = row-meets bs (column-for lot) lot
+abbrev pub row-by-table : Table → List ℕ → Lot → List Case
+row-by-table table bs lot = row-meets bs (table (lot .n)) lot

@@ -17,6 +17,7 @@ use Rattle.rules.specs.declared.Outcome.{Outcome}
 use Rattle.rules.specs.declared.ReadAnswer.{ReadAnswer}
 use Rattle.rules.specs.declared.WriteAnswer.{WriteAnswer}
 use Rattle.rules.specs.declared.ListAnswer.{ListAnswer}
+use Rattle.rules.specs.declared.PlaceAnswer.{PlaceAnswer}
 use Rattle.rules.specs.declared.Hundredths.{Hundredths}
 use Rattle.rules.specs.declared.PwlAnswer.{PwlAnswer}
 use Rattle.rules.specs.declared.Sheet.{Sheet}
@@ -70,6 +71,10 @@ write-said (WriteAnswer.Refused r) = refused r
 abbrev pub list-said : ListAnswer → Said ℕ
 list-said (ListAnswer.Answers items) = answers items
 list-said (ListAnswer.Refused r) = refused r
+
+abbrev pub place-said : PlaceAnswer → Said ℕ
+place-said (PlaceAnswer.Answers start) = answers start
+place-said (PlaceAnswer.Refused r) = refused r
 
 abbrev pub pwl-said : PwlAnswer → Said Hundredths
 pwl-said (PwlAnswer.Answers pwl) = answers pwl

@@ -9,38 +9,38 @@ use Rattle.rules.specs.declared.Finding.{Finding}
 use Rattle.rules.specs.Units.{hundredths}
 use Rattle.rules.specs.Said.{Said, Case, ruled}
 use Rattle.rules.specs.Lot.{Lot}
-use Rattle.rules.specs.Table.{entries}
+use Rattle.rules.specs.Table.{Table, entries}
 use Rattle.rules.specs.Percent.{nearest}
 use Rattle.rules.specs.Pay.{payment}
 use Rattle.rules.specs.Sheet.{sheet-of, differences, first-of, difference-numbers}
 use Rattle.rules.specs.Refusals.{sheet-case, room-case}
 use Rattle.rules.specs.Meets.{evaluation-meets, pay-meets}
-use Rattle.rules.specs.Entries.{column-for, percentages, written}
+use Rattle.rules.specs.Entries.{percentages, written}
 
--- ---- the check: VMA, voids and density as lots, price and quantity, and a sheet
+-- ---- the check: VMA, voids and density as lots, price and quantity, and a sheet; all three lots by one table
 
 -- the PWL of a lot, as its evaluation answers it
-unfoldable pub pwl-of : Lot → ℤ
-pwl-of lot = percentages nearest (entries (column-for lot)) lot .pwl .0
+unfoldable pub pwl-of : Table → Lot → ℤ
+pwl-of table lot = percentages nearest (entries (table (lot .n))) lot .pwl .0
 
 -- that, or the refusal that the evaluation meets
-unfoldable pub pwl-says : Lot → Said Hundredths
-pwl-says lot = ruled (evaluation-meets (column-for lot) lot) (hundredths (pwl-of lot))
+unfoldable pub pwl-says : Table → Lot → Said Hundredths
+pwl-says table lot = ruled (evaluation-meets (table (lot .n)) lot) (hundredths (pwl-of table lot))
 
-module _ (vma voids density : Lot) (price quantity : ℤ) where
+module _ (table : Table) (vma voids density : Lot) (price quantity : ℤ) where
   -- the refusals of our own entries: all of the first lot's, all of the second's, all of the third's, and then those of pay
   unfoldable pub our-meets : List Case
   our-meets =
-      evaluation-meets (column-for vma) vma ++
-      (evaluation-meets (column-for voids) voids ++
-      (evaluation-meets (column-for density) density ++
-      pay-meets (pwl-of vma) (pwl-of voids) (pwl-of density) price quantity))
+      evaluation-meets (table (vma .n)) vma ++
+      (evaluation-meets (table (voids .n)) voids ++
+      (evaluation-meets (table (density .n)) density ++
+      pay-meets (pwl-of table vma) (pwl-of table voids) (pwl-of table density) price quantity))
 
   -- the sheet that our rules give
   unfoldable pub our-sheet : Sheet
   our-sheet =
-      sheet-of (pwl-of vma) (pwl-of voids) (pwl-of density)
-      (payment (pwl-of vma) (pwl-of voids) (pwl-of density) price quantity)
+      sheet-of (pwl-of table vma) (pwl-of table voids) (pwl-of table density)
+      (payment (pwl-of table vma) (pwl-of table voids) (pwl-of table density) price quantity)
 
   unfoldable pub ours-says : Said Sheet
   ours-says = ruled our-meets our-sheet

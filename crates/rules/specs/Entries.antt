@@ -16,7 +16,7 @@ use Rattle.rules.specs.declared.Row.{Row}
 use Rattle.rules.specs.Units.{thousandths, hundredths}
 use Rattle.rules.specs.Said.{Said, refused, answers, ruled}
 use Rattle.rules.specs.Lot.{Lot, most, in-places}
-use Rattle.rules.specs.Table.{Found, table-106-1, entries}
+use Rattle.rules.specs.Table.{Table, Found, entries}
 use Rattle.rules.specs.Percent.{Rule, nearest, totals, sum, spread, upper-side, lower-side, within}
 use Rattle.rules.specs.Halving.{upper-tried, lower-tried}
 use Rattle.rules.specs.Deviation.{deviation}
@@ -42,10 +42,6 @@ deviation-says xs = ruled (readings-meet xs) (thousandths (deviation-of (length 
 
 -- ---- direct evaluation
 
--- What Table 106-1 has for a lot: the column for its count, or none. Only entries look here; the definitions that they use take any column.
-abbrev pub column-for : Lot → Found
-column-for lot = table-106-1 (lot .n)
-
 module _ (rule : Rule) (column : List ℕ) where
   -- both sides and PWL, of n, T and Z and two limits, and how many rows the handheld tries for each side
   unfoldable pub percentages-of : Totals → Limit → Limit → Percentages
@@ -66,8 +62,9 @@ module _ (rule : Rule) (column : List ℕ) where
 unfoldable pub evaluated : Rule → Found → Lot → Said Percentages
 evaluated rule found lot = ruled (evaluation-meets found lot) (percentages rule (entries found) lot)
 
-unfoldable pub evaluation-says : Lot → Said Percentages
-evaluation-says lot = evaluated nearest (column-for lot) lot
+-- by a table, which is the edition that the caller names
+unfoldable pub evaluation-says : Table → Lot → Said Percentages
+evaluation-says table lot = evaluated nearest (table (lot .n)) lot
 
 -- ---- the lot record
 
@@ -129,10 +126,10 @@ after-cut sublots out = written (item-numbers (cut sublots)) out (cut-says sublo
 
 -- ---- the notebook's row
 
-unfoldable pub row-says : Limit → Limit → List ℕ → Said Row
-row-says upper lower bs =
+unfoldable pub row-says : Table → Limit → Limit → List ℕ → Said Row
+row-says table upper lower bs =
     let lot : Lot = lent-lot upper lower bs in
-    let found : Found = column-for lot in
+    let found : Found = table (lot .n) in
     ruled (row-meets bs found lot)
     (row-of (sum (lot .readings)) (lot .n) (deviation-of (lot .n) (lot .readings))
     (percentages nearest (entries found) lot .pwl .0))

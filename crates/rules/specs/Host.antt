@@ -27,10 +27,12 @@ use Rattle.rules.specs.declared.host.HostMixtureLimits.{HostMixtureLimit
 use Rattle.rules.specs.declared.host.HostRead.{HostRead}
 use Rattle.rules.specs.declared.host.HostWritten.{HostWritten}
 use Rattle.rules.specs.declared.host.HostListed.{HostListed}
+use Rattle.rules.specs.declared.host.HostPlace.{HostPlace}
 use Rattle.rules.specs.declared.host.HostRow.{HostRow}
 use Rattle.rules.specs.Units.{thousandths}
 use Rattle.rules.specs.Said.{Said, refused, answers}
 use Rattle.rules.specs.Lot.{Lot, lot-of, places}
+use Rattle.rules.specs.Table.{Table}
 use Rattle.rules.specs.Sheet.{verdict-number}
 use Rattle.rules.specs.Refusals.{number-of}
 use Rattle.rules.specs.Notebook.{lent-limit, mean-asked, deviation-asked, pwl-asked}
@@ -98,9 +100,9 @@ abbrev pub given-lot : ℤ → ℕ → ℤ → ℕ → List ℤ → Lot
 given-lot upper upper-presence lower lower-presence xs =
     lot-of (lent-limit upper upper-presence) (lent-limit lower lower-presence) xs
 
-abbrev pub given-row : ℤ → ℕ → ℤ → ℕ → List ℕ → Said Row
-given-row upper upper-presence lower lower-presence bs =
-    row-says (lent-limit upper upper-presence) (lent-limit lower lower-presence) bs
+abbrev pub given-row : Table → ℤ → ℕ → ℤ → ℕ → List ℕ → Said Row
+given-row table upper upper-presence lower lower-presence bs =
+    row-says table (lent-limit upper upper-presence) (lent-limit lower lower-presence) bs
 
 -- ---- a lot, both ways
 
@@ -163,6 +165,10 @@ host-written (answers size) = record { refusal = no-refusal; size = size }
 abbrev pub host-listed : Said ℕ → HostListed
 host-listed (refused r) = record { refusal = refusal-part r; items = 0 }
 host-listed (answers items) = record { refusal = no-refusal; items = items }
+
+abbrev pub host-place : Said ℕ → HostPlace
+host-place (refused r) = record { refusal = refusal-part r; start = 0 }
+host-place (answers start) = record { refusal = no-refusal; start = start }
 
 -- The notebook's row in one answer: each double is the one that its own call gives.
 abbrev pub host-row : Said Row → HostRow

@@ -5,6 +5,8 @@ pub mod Lot
 pub mod Job
 pub mod Record
 pub mod Table
+pub mod Edition
+pub mod Store
 pub mod Percent
 pub mod Halving
 pub mod Deviation
@@ -17,5 +19,6 @@ pub mod Notebook
 pub mod Answers
 pub mod Entries
 pub mod Check
+pub mod Editions
 pub mod Host
 pub mod HostSheet

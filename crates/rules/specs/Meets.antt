@@ -1,4 +1,4 @@
--- Document 01, "Numbers of refusal", and document 02, R-1: the refusals that each entry can meet, in the order in which they are looked for.
+-- Document 01, "Numbers of refusal", and document 02, R-1 and R-5: the refusals that each entry can meet, in the order in which they are looked for.
 use mathlib.Core.List.{List, [], _∷_, _++_}
 use Prim.Native.Nat.{ℕ}
 use lib.IntN.{ℤ}
@@ -10,7 +10,7 @@ use Rattle.rules.specs.Lot.{Lot}
 use Rattle.rules.specs.Table.{Found}
 use Rattle.rules.specs.Job.{cut, item-numbers}
 use Rattle.rules.specs.Record.{lot-of-record, record-of}
-use Rattle.rules.specs.Refusals.{size-case, version-case, flags-case, count-case, record-count-case, bytes-count-case, range-case, unlimited-case, crossed-case, room-case, pay-case, mixture-case, offset-case, job-case, column-case}
+use Rattle.rules.specs.Refusals.{size-case, version-case, flags-case, count-case, record-count-case, bytes-count-case, range-case, unlimited-case, crossed-case, room-case, pay-case, mixture-case, offset-case, job-case, column-case, store-case, edition-case}
 
 -- mean and deviation alone: 4 and 5
 unfoldable pub readings-meet : List ℤ → List Case
@@ -28,21 +28,21 @@ lot-meets lot = range-case (lot .upper) (lot .lower) (lot .readings) ∷ limits-
 abbrev pub counted-meets : Lot → List Case
 counted-meets lot = count-case (lot .n) ∷ lot-meets lot
 
--- where a percentage is asked for, last of all, by what is found for the lot: 10
+-- where a percentage is asked for, last of all, by what is found for the lot: 13 and then 10
 abbrev pub column-meets : Found → List Case
-column-meets found = column-case found ∷ []
+column-meets found = edition-case found ∷ column-case found ∷ []
 
--- direct evaluation: 4 to 7 and 10
+-- direct evaluation: 11, 4 to 7, 13 and 10
 unfoldable pub evaluation-meets : Found → Lot → List Case
-evaluation-meets found lot = counted-meets lot ++ column-meets found
+evaluation-meets found lot = store-case found ∷ (counted-meets lot ++ column-meets found)
 
 -- a lot whose readings come as bytes: 4 to 7
 abbrev pub bytes-meet : List ℕ → Lot → List Case
 bytes-meet bs lot = bytes-count-case bs ∷ lot-meets lot
 
--- the notebook's row: 4 to 7 and 10
+-- the notebook's row: 11, 4 to 7, 13 and 10
 unfoldable pub row-meets : List ℕ → Found → Lot → List Case
-row-meets bs found lot = bytes-meet bs lot ++ column-meets found
+row-meets bs found lot = store-case found ∷ (bytes-meet bs lot ++ column-meets found)
 
 -- what a record can meet before its lot: 1 to 4
 abbrev pub head-meets : List ℕ → List Case

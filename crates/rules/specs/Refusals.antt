@@ -1,4 +1,4 @@
--- Document 01, "Numbers of refusal", as document 02, R-1 and R-4, amends it: the table, a definition for each line of it.
+-- Document 01, "Numbers of refusal", as document 02, R-1, R-4 and R-5, amends it: the table, a definition for each line of it.
 use mathlib.Core.Bool.{Bool, true, false, not, _&&_, _||_}
 use mathlib.Core.List.{List, [], _∷_}
 use Prim.Native.Nat.{ℕ, _/_, _%_, _-_}
@@ -11,11 +11,13 @@ use Rattle.rules.specs.declared.Limit.the-variants.{Absent, At}
 use Rattle.rules.specs.declared.Pair.{Pair}
 use Rattle.rules.specs.declared.Sheet.{Sheet}
 use Rattle.rules.specs.declared.Refusal.{Refusal}
-use Rattle.rules.specs.declared.Refusal.the-variants.{Size, Version, Flags, Count, Range, Unlimited, Crossed, Room, Number, NoColumn}
+use Rattle.rules.specs.declared.Refusal.the-variants.{Size, Version, Flags, Count, Range, Unlimited, Crossed, Room, Number, NoColumn, Unsound, NotRising, NoEdition}
 use Rattle.rules.specs.Units.{in-range, hundred-percent}
 use Rattle.rules.specs.Said.{Case}
 use Rattle.rules.specs.Lot.{most}
-use Rattle.rules.specs.Table.{Found, has-column}
+use Rattle.rules.specs.Table.{Found, has-store, has-edition, has-column}
+use Rattle.rules.specs.Edition.{number-field, accepted}
+use Rattle.rules.specs.Store.{is-store, editions, most-editions, stored, least-after}
 use Rattle.rules.specs.Job.{longest-job}
 use Rattle.rules.specs.Record.{length-field, version-field, flags-field, n-field, upper-field, lower-field, has-upper, has-lower, head-size, length-of, spelled}
 use Rattle.rules.specs.Mixture.{vma-pair, voids-pair}
@@ -32,6 +34,9 @@ number-of Crossed = 7
 number-of Room = 8
 number-of Number = 9
 number-of NoColumn = 10
+number-of Unsound = 11
+number-of NotRising = 12
+number-of NoEdition = 13
 
 abbrev pub given-when : Refusal → Bool → Case
 given-when refusal applies = record { refusal = refusal; applies = applies }
@@ -151,6 +156,34 @@ sheet-case sheet =
     || outside (pos 1) (sheet .verdict .0)
     || outside greatest-entry (sheet .pay .0))
 
--- 10: the table in use has no column for n
+-- 10: the edition that is named has no column for n
 abbrev pub column-case : Found → Case
 column-case found = given-when NoColumn (not (has-column found))
+
+-- 11: the lent buffer is no store
+abbrev pub sound-case : List ℕ → Case
+sound-case s = given-when Unsound (not (is-store s))
+
+-- 11, where a percentage is asked for
+abbrev pub store-case : Found → Case
+store-case found = given-when Unsound (not (has-store found))
+
+-- 11: the edition is not accepted
+abbrev pub accepted-case : List ℕ → Case
+accepted-case e = given-when Unsound (not (accepted e))
+
+-- 12: the edition's number is not above the last one stored
+abbrev pub rising-case : List ℕ → List ℕ → Case
+rising-case s e = given-when NotRising (ltb (number-field e) (least-after 0 (editions s)))
+
+-- 8: there are eight editions, so that another is a ninth
+abbrev pub ninth-case : List ℕ → Case
+ninth-case s = given-when Room (leb most-editions (length (editions s)))
+
+-- 13: the store has no edition of the number that is named
+abbrev pub named-case : ℕ → List ℕ → Case
+named-case named s = given-when NoEdition (not (stored named (editions s)))
+
+-- 13, where a percentage is asked for
+abbrev pub edition-case : Found → Case
+edition-case found = given-when NoEdition (not (has-edition found))

@@ -66,21 +66,44 @@ rows =
     (10000 ∷ 10000 ∷ 10000 ∷ 10000 ∷ 10000 ∷ 10000 ∷ 10000 ∷ 10000 ∷ 10000 ∷ []) ∷  -- 2.65
     []
 
--- What a table has for a count n: a column of entries, or none.
+-- What is found for a count n: lent bytes that are no store of editions, no edition of the number that is named, a table without a column for n, or a
+-- column of entries.
 pub data Found : Type 0 where
+  no-store : Found
+  no-edition : Found
   no-column : Found
   a-column : List ℕ → Found
 
+-- a table, by what is found in it for each count
+abbrev pub Table : Type 0
+Table = ℕ → Found
+
 -- the printed table has a column for each n from 2 to 10, and no other
-unfoldable pub table-106-1 : ℕ → Found
+unfoldable pub table-106-1 : Table
 table-106-1 n = cond (leb 2 n && leb n 10) (a-column (map (λ (row : List ℕ). getD row (n - 2) 0) rows)) no-column
 
+abbrev pub has-store : Found → Bool
+has-store no-store = false
+has-store no-edition = true
+has-store no-column = true
+has-store (a-column column) = true
+
+abbrev pub has-edition : Found → Bool
+has-edition no-store = false
+has-edition no-edition = false
+has-edition no-column = true
+has-edition (a-column column) = true
+
 abbrev pub has-column : Found → Bool
+has-column no-store = false
+has-column no-edition = false
 has-column no-column = false
 has-column (a-column column) = true
 
 -- the entries of what is found
 abbrev pub entries : Found → List ℕ
+entries no-store = []
+entries no-edition = []
 entries no-column = []
 entries (a-column column) = column
 

@@ -109,6 +109,12 @@ pub struct HostListed {
 }
 
 #[repr(C)]
+pub struct HostPlace {
+    pub refusal: HostRefusal,
+    pub start: usize,
+}
+
+#[repr(C)]
 pub struct HostRow {
     pub refusal: HostRefusal,
     pub mean: f64,

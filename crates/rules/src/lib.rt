@@ -1,5 +1,6 @@
 // The words of documents 01 and 02: units, limits, refusals, lots and answers. What is right of them is in specs/; the crates above compute it.
 pub mod host;
+pub mod store;
 
 ghost use mathlib.Core.Path.{_≡_};
 ghost use Rattle.rules.specs.Refusals.{number-of};
@@ -55,12 +56,18 @@ pub enum Refusal {
     Unlimited,
     // 7: the lower limit above the upper
     Crossed,
-    // 8: no room for what is to be written
+    // 8: no room for what is to be written, or a ninth edition
     Room,
     // 9: a number that pay, the mixture lookup, the cut of a job or a pay sheet does not take
     Number,
-    // 10: no column in the table for so many readings
+    // 10: no column in the edition for so many readings
     NoColumn,
+    // 11: lent bytes that are no store of editions, or an edition that is not accepted
+    Unsound,
+    // 12: an edition whose number is not above the last one stored
+    NotRising,
+    // 13: no edition of that number in the store
+    NoEdition,
 }
 
 impl Refusal {
@@ -78,6 +85,9 @@ impl Refusal {
             Refusal::Room => 8,
             Refusal::Number => 9,
             Refusal::NoColumn => 10,
+            Refusal::Unsound => 11,
+            Refusal::NotRising => 12,
+            Refusal::NoEdition => 13,
         }
     }
 }
@@ -99,6 +109,17 @@ pub struct Totals {
 
 pub enum TotalsAnswer {
     Answers(Totals),
+    Refused(Refusal),
+}
+
+// The totals of a lot, and the place in a store at which the column for its count starts.
+pub struct Columned {
+    pub totals: Totals,
+    pub column: usize,
+}
+
+pub enum ColumnAnswer {
+    Answers(Columned),
     Refused(Refusal),
 }
 
@@ -200,6 +221,12 @@ pub enum WriteAnswer {
 
 // How many items stand in a lent list that was filled.
 pub enum ListAnswer {
+    Answers(usize),
+    Refused(Refusal),
+}
+
+// The place in a store at which an edition's entry starts.
+pub enum PlaceAnswer {
     Answers(usize),
     Refused(Refusal),
 }

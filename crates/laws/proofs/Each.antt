@@ -1,16 +1,12 @@
 -- One test that computes whether every number of a run passes, and what it says of each of them.
 use mathlib.Core.Path.{subst}
-use mathlib.Core.Bool.{Bool, true, _&&_}
+use mathlib.Core.Bool.{Bool}
 use Prim.Native.Nat.{ℕ, zero, suc, _+_, _≤_, _<_}
 use native.Mathlib.Decide.{ℕ-discrete}
 use native.Mathlib.Omega.{arith}
 use lib.Dec.{T}
 use lib.Ieee.Fits.{and-l, and-r}
-
--- the first `size` numbers from i on all pass
-abbrev pub each : (ℕ → Bool) → ℕ → ℕ → Bool
-each passes zero i = true
-each passes (suc size) i = passes i && each passes size (suc i)
+use Rattle.rules.specs.Edition.{each}
 
 pub each-at : (passes : ℕ → Bool) (size i : ℕ) → T (each passes size i) → (k : ℕ) → i ≤ k → k < i + size → T (passes k)
 each-at passes zero i t k low high = absurd (omega arith)

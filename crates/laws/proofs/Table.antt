@@ -11,8 +11,9 @@ use lib.Dec.{T, leb, eqb, leb→le, eqb→eq}
 use lib.Ieee.Fits.{and-l, and-r}
 use lib.ListN.{length, getD}
 use Rattle.rules.specs.Table.{no-column, a-column, rows, table-106-1, has-column, entries, entry, last-row, rises-from, well-formed, column-four}
+use Rattle.rules.specs.Edition.{each}
 use Rattle.laws.specs.Column.{Column}
-use Rattle.laws.proofs.Each.{each, each-at}
+use Rattle.laws.proofs.Each.{each-at}
 
 -- no entry is below what went before
 above : (least : ℕ) (xs : List ℕ) → T (rises-from least xs) → (k : ℕ) → k < length xs → least ≤ getD xs k 0

@@ -10,7 +10,7 @@ use Rattle.rules.specs.declared.Limit.{Limit}
 use Rattle.rules.specs.declared.Limit.the-variants.{Absent, At}
 use Rattle.rules.specs.declared.Percentages.{Percentages}
 use Rattle.rules.specs.declared.Row.{Row}
-use Rattle.rules.specs.Table.{a-column, table-106-1, entry}
+use Rattle.rules.specs.Table.{Table, a-column, entry}
 use Rattle.rules.specs.Notebook.{over}
 use Rattle.laws.specs.Ratio.{Ratio, Is}
 use Rattle.laws.specs.Root.{Root, BelowZero, magnitude, HalfUpRoot}
@@ -47,10 +47,10 @@ pub record AsPublished (column : List ℕ) (upper lower : Limit) (xs : List ℤ)
   pub lower-side : LowerAsPublished column lower xs (p .lower .0)
   pub pwl : p .pwl .0 ≡ (p .upper .0 +ℤ p .lower .0) -ℤ pos 10000
 
--- As published, by Table 106-1's column for the number of readings.
-pub record ByTable106-1 (upper lower : Limit) (xs : List ℤ) (p : Percentages) : Type 0 where
+-- As published, by a table's column for the number of readings.
+pub record ByTable (table : Table) (upper lower : Limit) (xs : List ℤ) (p : Percentages) : Type 0 where
   pub column : List ℕ
-  pub found : table-106-1 (length xs) ≡ a-column column
+  pub found : table (length xs) ≡ a-column column
   pub published : AsPublished column upper lower xs p
 
 -- Two answers with the same percentages. How many rows were tried for them these papers do not say; document 02 does (Tried.antt).
@@ -58,7 +58,7 @@ abbrev pub SamePercentages : Percentages → Percentages → Type 0
 SamePercentages p q = (p .upper ≡ q .upper) × (p .lower ≡ q .lower) × (p .pwl ≡ q .pwl)
 
 -- The notebook's row: each double is one division of a number that is as published.
-pub record RowAsPublished (upper lower : Limit) (xs : List ℤ) (row : Row) : Type 0 where
+pub record RowAsPublished (table : Table) (upper lower : Limit) (xs : List ℤ) (row : Row) : Type 0 where
   pub total : ℤ
   pub mean : Is (published-mean xs) total (length xs)
   pub mean-double : row .mean ≡ over total (1000 * length xs)
@@ -66,5 +66,5 @@ pub record RowAsPublished (upper lower : Limit) (xs : List ℤ) (row : Row) : Ty
   pub deviation : HalfUpRoot (published-deviation xs) thousandths
   pub deviation-double : row .deviation ≡ over thousandths 1000
   pub percentages : Percentages
-  pub by-the-table : ByTable106-1 upper lower xs percentages
+  pub by-the-table : ByTable table upper lower xs percentages
   pub pwl-double : row .pwl ≡ over (percentages .pwl .0) 100

@@ -14,6 +14,7 @@ use Rattle.rules.specs.declared.Percentages.{Percentages}
 use Rattle.rules.specs.Units.{thousandths}
 use Rattle.rules.specs.Said.{Said, refused, answers}
 use Rattle.rules.specs.Lot.{lot-of}
+use Rattle.rules.specs.Table.{Table}
 use Rattle.rules.specs.Percent.{totals, spread, upper-distance, index-squared, midpoint-squared}
 use Rattle.rules.specs.Entries.{evaluation-says, deviation-says}
 use Rattle.rules.specs.Host.{host-refusal}
@@ -37,16 +38,17 @@ abbrev pub Answered : (Percentages → Type 0) → Said Percentages → Type 0
 Answered P (refused r) = ⊥
 Answered P (answers p) = P p
 
-abbrev pub Holds : Example → Type 0
-Holds (pwl xs upper lower expected) =
-    Answered (λ (p : Percentages). p .pwl .0 ≡ pos expected) (evaluation-says (lot-of upper lower xs))
-Holds (midpoint xs upper k) =
+-- An example holds by a table: Table 106-1 is meant.
+abbrev pub Holds : Table → Example → Type 0
+Holds table (pwl xs upper lower expected) =
+    Answered (λ (p : Percentages). p .pwl .0 ≡ pos expected) (evaluation-says table (lot-of upper lower xs))
+Holds table (midpoint xs upper k) =
     let a : Totals = totals (length xs) xs in
     let d : ℤ = upper-distance a upper in
     _≡_ {A = Bool × Bool × ℤ}
     (ltZ (pos 0) (spread a), leZ (pos 0) d, index-squared (a .n) d)
     (true, true, midpoint-squared (a .n) (spread a) k)
-Holds (deviation xs expected) = deviation-says xs ≡ answers (thousandths (pos expected))
+Holds table (deviation xs expected) = deviation-says xs ≡ answers (thousandths (pos expected))
 
 abbrev pub examples : List Example
 examples =

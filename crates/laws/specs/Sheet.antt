@@ -14,6 +14,7 @@ use Rattle.rules.specs.declared.Finding.{Finding}
 use Rattle.rules.specs.declared.host.HostChecked.{HostChecked}
 use Rattle.rules.specs.Said.{answers}
 use Rattle.rules.specs.Lot.{Lot}
+use Rattle.rules.specs.Table.{Table}
 use Rattle.rules.specs.Sheet.{sheet-numbers, sheet-of, differing, differences, difference-numbers}
 use Rattle.rules.specs.Entries.{evaluation-says, pay-says}
 use Rattle.laws.specs.Between.{Between}
@@ -84,15 +85,15 @@ pub record DifferencesGiven (a b : Sheet) (items : ℕ) (out after : List ℤ) :
 
 -- ---- our own sheet, and a check
 
--- The sheet that our own entries give for three lots, a price and a quantity: the PWL that evaluation answers for each lot, and the composite, the
+-- The sheet that our own entries give for three lots, by one table, a price and a quantity: the PWL that evaluation answers for each lot, and the composite, the
 -- verdict on the lot and the pay that pay answers for these.
-pub record IsOurs (vma voids density : Lot) (price quantity : ℤ) (ours : Sheet) : Type 0 where
+pub record IsOurs (table : Table) (vma voids density : Lot) (price quantity : ℤ) (ours : Sheet) : Type 0 where
   pub of-vma : Percentages
   pub of-voids : Percentages
   pub of-density : Percentages
-  pub vma-answered : evaluation-says vma ≡ answers of-vma
-  pub voids-answered : evaluation-says voids ≡ answers of-voids
-  pub density-answered : evaluation-says density ≡ answers of-density
+  pub vma-answered : evaluation-says table vma ≡ answers of-vma
+  pub voids-answered : evaluation-says table voids ≡ answers of-voids
+  pub density-answered : evaluation-says table density ≡ answers of-density
   pub settled : Payment
   pub paid : pay-says (of-vma .pwl .0) (of-voids .pwl .0) (of-density .pwl .0) price quantity ≡ answers settled
   pub same : ours ≡ sheet-of (of-vma .pwl .0) (of-voids .pwl .0) (of-density .pwl .0) settled

@@ -8,6 +8,7 @@ use Rattle.rules.specs.declared.Limit.{Limit}
 use Rattle.rules.specs.declared.Limit.the-variants.{Absent, At}
 use Rattle.rules.specs.declared.Percentages.{Percentages}
 use Rattle.rules.specs.Lot.{lot-of}
+use Rattle.rules.specs.Table.{Table}
 use Rattle.rules.specs.Entries.{evaluation-says}
 use Rattle.laws.specs.Ratio.{Ratio}
 use Rattle.laws.specs.Root.{magnitude}
@@ -43,9 +44,9 @@ pub data Example : Type 0 where
   -- readings, upper and lower limit, and the rows tried for each
   tried : List ℤ → Limit → Limit → ℕ → ℕ → Example
 
-abbrev pub Holds : Example → Type 0
-Holds (tried xs upper lower for-upper for-lower) =
-    Answered (λ (p : Percentages). p .tried ≡ record { upper = for-upper; lower = for-lower }) (evaluation-says (lot-of upper lower xs))
+abbrev pub Holds : Table → Example → Type 0
+Holds table (tried xs upper lower for-upper for-lower) =
+    Answered (λ (p : Percentages). p .tried ≡ record { upper = for-upper; lower = for-lower }) (evaluation-says table (lot-of upper lower xs))
 
 -- Document 01's lots D1 to D9, worked out by hand, and three more: a lower limit alone, sides that differ, and the last row.
 abbrev pub examples : List Example

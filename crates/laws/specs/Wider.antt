@@ -8,6 +8,7 @@ use Rattle.rules.specs.declared.Limit.the-variants.{Absent, At}
 use Rattle.rules.specs.declared.Percentages.{Percentages}
 use Rattle.rules.specs.Said.{answers}
 use Rattle.rules.specs.Lot.{Lot}
+use Rattle.rules.specs.Table.{Table}
 use Rattle.rules.specs.Entries.{evaluation-says}
 
 -- the same readings under other limits
@@ -24,16 +25,16 @@ LowerAsWide lower Absent = Unit {0}
 LowerAsWide Absent (At w) = ⊥
 LowerAsWide (At l) (At w) = w .0 ≤ℤ l .0
 
--- The PWL that is answered for a lot.
-abbrev pub HasPwl : Lot → ℤ → Type 0
-HasPwl lot pwl = (p : Percentages) × (evaluation-says lot ≡ answers p) × (p .pwl .0 ≡ pwl)
+-- The PWL that is answered for a lot by a table.
+abbrev pub HasPwl : Table → Lot → ℤ → Type 0
+HasPwl table lot pwl = (p : Percentages) × (evaluation-says table lot ≡ answers p) × (p .pwl .0 ≡ pwl)
 
--- The PWLs of the same readings under two pairs of limits, the second at least as wide on each side.
-pub record Widened (pwl wider : ℤ) : Type 0 where
+-- The PWLs of the same readings by one table under two pairs of limits, the second at least as wide on each side.
+pub record Widened (table : Table) (pwl wider : ℤ) : Type 0 where
   pub lot : Lot
   pub upper : Limit
   pub lower : Limit
   pub upper-as-wide : UpperAsWide (lot .upper) upper
   pub lower-as-wide : LowerAsWide (lot .lower) lower
-  pub narrow : HasPwl lot pwl
-  pub wide : HasPwl (with-limits upper lower lot) wider
+  pub narrow : HasPwl table lot pwl
+  pub wide : HasPwl table (with-limits upper lower lot) wider

@@ -28,6 +28,7 @@ pub mod Head
 pub mod Desk
 pub mod Tried
 pub mod StoreWalk
+pub mod Plain
 pub mod Totalled
 pub mod Job
 pub mod Sheet

@@ -1,26 +1,24 @@
-// Table 106-1 of document 004, as document 02 corrects it, a column at a time, and for which counts it has one; and an entry of any column.
+// Table 106-1 of document 004, as document 02 corrects it, a column at a time and as an edition; and an entry of any column.
 mod columns;
 
 use columns::FROM_2;
 use columns::FROM_5;
 use columns::FROM_9;
 use rules::Hundredths;
+use rules::Refusal;
+use rules::WriteAnswer;
 ghost use mathlib.Core.Path.{_≡_};
 ghost use Prim.Native.Nat.{_≤_};
-ghost use mathlib.Core.List.{[], _∷_};
+ghost use mathlib.Core.List.{[], _∷_, _++_};
 ghost use lib.IntN.{pos};
-ghost use lib.ListN.{length};
+ghost use lib.ListN.{length, drop};
 ghost use Rattle.rules.specs.Record.{spelled};
-ghost use Rattle.rules.specs.Table.{table-106-1, has-column, entries, entry, column-in};
+ghost use Rattle.rules.specs.Table.{table-106-1, entries, entry, column-in};
+ghost use Rattle.rules.specs.Edition.{edition-106-1};
+ghost use Rattle.rules.specs.Answers.{write-said};
+ghost use Rattle.rules.specs.Editions.{default-says, after-default};
 
-// Whether the table has a column for n readings.
-pub fn has_column(n: usize) -> bool
-    ensures { λ r. ⌜ r ≡ has-column (table-106-1 n) ⌝ }
-{
-    (2 <= n) & (n <= 10)
-}
-
-// The column for n readings. Inner: `quality::percentages` and the printed table pass a count that has one.
+// The column for n readings. Inner: the edition and the printed table pass a count that has one.
 pub fn column(n: usize) -> [u8; 108]
     requires { ⌜ (2 ≤ n) × (n ≤ 10) ⌝ }
     ensures { λ r. ⌜ column-in r ≡ entries (table-106-1 n) ⌝ }
@@ -52,4 +50,39 @@ pub fn entry(column: &[u8], k: usize) -> Hundredths
     ensures { λ r. ⌜ r .0 ≡ pos (entry (column-in (now (column .entry))) k) ⌝ }
 {
     hundredths(two(column[2 * k], column[2 * k + 1]))
+}
+
+// The bytes of the edition: 7 before its columns, and 108 to each of nine.
+const EDITION: usize = 979;
+
+// The edition at the start of lent bytes, under a number. Inner: `edition` writes where there is room.
+fn fill(number: u16, out: &mut [u8])
+    requires { ⌜ 979 ≤ length (now out) ⌝ }
+    ensures { λ _. ⌜ now (out .exit) ≡ edition-106-1 number ++ drop 979 (now (out .entry)) ⌝ }
+{
+    out[0] = 3;
+    out[1] = 209;
+    out[2] = 1;
+    out[3] = (number / 256) as u8;
+    out[4] = (number % 256) as u8;
+    out[5] = 2;
+    out[6] = 10;
+    let mut n = 2;
+    while n <= 10 {
+        bytes::copy(&column(n), &mut out[7 + 108 * (n - 2)..]);
+        n += 1;
+    }
+}
+
+// Table 106-1 as an edition, written under a number into lent bytes, and how many bytes it has.
+pub fn edition(number: u16, out: &mut [u8]) -> WriteAnswer
+    ensures { λ r. ⌜ write-said r ≡ default-says number (now (out .entry)) ⌝ }
+    ensures { λ r. ⌜ now (out .exit) ≡ after-default number (now (out .entry)) ⌝ }
+{
+    if out.len() < EDITION {
+        WriteAnswer::Refused(Refusal::Room)
+    } else {
+        fill(number, out);
+        WriteAnswer::Answers(EDITION)
+    }
 }

@@ -13,17 +13,35 @@
      5  a present limit or a reading out of range; in the mixture lookup, a limit that would be
      6  both limits absent
      7  the lower limit above the upper
-     8  lent memory shorter than what is to be written
+     8  lent memory shorter than what is to be written; a ninth edition
      9  in pay: a number below 0, a PWL above 10,000, a price above 10,000,000 or a quantity above 100,000,000;
         in the mixture lookup: a mixture number not 0 to 3; in the cut of a job: more than 4,096 sublots; of a pay
         sheet: an entry below 0 or above 1,000,000,000,000,000, or a verdict that is neither 0 nor 1
-    10  no column in Table 106-1, which has those for 2 to 10 readings; only where a percentage is asked for
+    10  no column for so many readings in the edition that is named; only where a percentage is asked for
+    11  a lent store that is none, or an edition that is not accepted
+    12  an edition whose number is not above the last one stored
+    13  no edition of that number in the store
 
-   The lowest that applies is given, of those that the call can meet, except where a job is cut and where pay sheets are
-   checked or compared: these calls have an order of their own. Each struct that is answered begins with the
-   refusal, whose number is 0 for none; of what is refused every other number is 0.
+   The first that applies is given, in the order in which the call below names them: for most calls the lowest. Each
+   struct that is answered begins with the refusal, whose number is 0 for none; of what is refused every other number
+   is 0.
 
    A limit is a number and a presence: 0 is absent, and its number is then not read; any other is present.
+
+   Whoever asks for a percentage lends a store of editions of the table and names one by its number. A store is any bytes:
+   up to eight entries, their numbers strictly rising, one after the other from the first byte, and then an end, which is
+   two zero bytes or fewer than two bytes. What lies behind the end is not read. So no bytes at all, and zero bytes, are an
+   empty store. An entry, numbers highest byte first:
+
+     bytes 0 and 1   how many bytes follow
+     byte 2          the version, 1
+     bytes 3 and 4   the edition's number
+     byte 5          first n, 2 to 17
+     byte 6          last n, 2 to 17, not below first n
+     from 7 on       a column for each n from first to last: 54 entries of two bytes, hundredths of a percent for the
+                     indices 0.00, 0.05, .. to 2.65; the first is 5,000, none is below the one before, the last is 10,000
+
+   Any other bytes are refusal 11, whichever edition is named, and before anything else is looked at.
 
    What a caller owes. The numbers and bytes may be any; these things the library cannot see for itself, and where one
    does not hold, nothing is promised:
@@ -48,7 +66,7 @@ extern "C" {
 
 /* The first number goes up where a program must be built anew or is answered otherwise, the second where more is
    offered. docs/VERSIONS.md says what each version has. */
-#define TULPAVICE_VERSION "4.1.0"
+#define TULPAVICE_VERSION "5.0.0"
 
 /* The most readings that a lot can hold, and the most bytes that its record can have. */
 #define TULPAVICE_MOST 17
@@ -57,6 +75,12 @@ extern "C" {
 /* The most sublots of a job that is cut, and how many lots that job has: two numbers to each are room for any job. */
 #define TULPAVICE_MOST_SUBLOTS 4096
 #define TULPAVICE_MOST_LOTS ((TULPAVICE_MOST_SUBLOTS + 2) / 10)
+
+/* The most editions that a store holds, and the bytes of one with so many columns: of Table 106-1's, and the most. */
+#define TULPAVICE_MOST_EDITIONS 8
+#define TULPAVICE_EDITION_BYTES(columns) (7 + 108 * (columns))
+#define TULPAVICE_TABLE_106_1_BYTES TULPAVICE_EDITION_BYTES(9)
+#define TULPAVICE_MOST_EDITION_BYTES TULPAVICE_EDITION_BYTES(16)
 
 /* How many entries a pay sheet has: two numbers to each are room for any comparison. */
 #define TULPAVICE_ENTRIES 6
@@ -139,6 +163,12 @@ struct tulpavice_listed {
     size_t items;
 };
 
+/* The place in a store, counted from 0, of the first byte of an edition's entry. */
+struct tulpavice_place {
+    struct tulpavice_refusal refusal;
+    size_t start;
+};
+
 /* A pay sheet, its entries 0 to 5 in this order: the PWLs of VMA, voids and density, the composite, the verdict on the lot
    (0 accepted, 1 rejected), and what is paid. */
 struct tulpavice_sheet {
@@ -174,12 +204,33 @@ struct tulpavice_mean tulpavice_mean(const int32_t *readings, size_t count);
 /* To the nearest thousandth; shown to people, and no percentage depends on it. Refusals 4 and 5. */
 struct tulpavice_deviation tulpavice_deviation(const int32_t *readings, size_t count);
 
-/* Both sides, PWL and the rows tried, of some readings and two limits. Refusals 4 to 7 and 10. */
-struct tulpavice_percentages tulpavice_evaluate(const int32_t *readings, size_t count, int32_t upper,
+/* Writes Table 106-1 as an edition, n = 2 to 10, TULPAVICE_TABLE_106_1_BYTES bytes under a number of the caller's, from the
+   start of lent memory, and leaves what lies past it. These bytes are a store of one edition by themselves. A refused
+   write leaves every byte. Refusal 8. */
+struct tulpavice_written tulpavice_table_106_1(uint16_t number, uint8_t *out, size_t room);
+
+/* Stores an edition, lent as an entry that fills its bytes, where the store ends, and two zero bytes after it where two or
+   more bytes follow. All other bytes stay, and a refused storing leaves every byte. An exact fit, or one byte left over, is
+   room enough. It answers the place at which the edition starts, as finding it then does. The two lie apart in memory.
+   Refusals 11, for the store or for the edition, 12 and 8. */
+struct tulpavice_place tulpavice_store(uint8_t *store, size_t store_size, const uint8_t *edition, size_t size);
+
+/* Where the edition of that number starts. Refusals 11 and 13. */
+struct tulpavice_place tulpavice_find(const uint8_t *store, size_t store_size, uint32_t edition);
+
+/* Lists the numbers of the editions, from the start of a lent list. The numbers past these stay, and a refused listing leaves
+   every number. All `room` numbers are lent, also those that are not written. Refusals 11 and 8. */
+struct tulpavice_listed tulpavice_list(const uint8_t *store, size_t store_size, uint32_t *out, size_t room);
+
+/* Both sides, PWL and the rows tried, of some readings and two limits, by the edition of that number in a store. Refusals 11,
+   4 to 7, 13 and 10. */
+struct tulpavice_percentages tulpavice_evaluate(const uint8_t *store, size_t store_size, uint32_t edition,
+                                                const int32_t *readings, size_t count, int32_t upper,
                                                 uint32_t upper_present, int32_t lower, uint32_t lower_present);
 
 /* The same of a lot. A count above its places is refusal 4. */
-struct tulpavice_percentages tulpavice_evaluate_lot(struct tulpavice_lot lot);
+struct tulpavice_percentages tulpavice_evaluate_lot(const uint8_t *store, size_t store_size, uint32_t edition,
+                                                    struct tulpavice_lot lot);
 
 /* Of the PWLs of three characteristics, a price in cents a ton and a quantity in hundredths of a ton. The pay is what
    would be paid, whatever the verdict. Refusal 9. */
@@ -213,11 +264,13 @@ struct tulpavice_written tulpavice_write(struct tulpavice_lot lot, uint8_t *out,
    those that are not written. Refusals 9 and then 8. */
 struct tulpavice_listed tulpavice_cut(size_t sublots, uint32_t *out, size_t room);
 
-/* Checks a pay sheet for the lots of three characteristics, a price in cents a ton and a quantity in hundredths of a ton.
-   Accepted is the sheet that the calls above give for them, and no other. The refusals in this order: all of the first
-   lot's, as tulpavice_evaluate_lot gives them, all of the second's, all of the third's; then 9 for price or quantity, and
-   then 9 for the sheet. A PWL or a composite that cannot be, such as 10,001, is no refusal but differs. */
-struct tulpavice_checked tulpavice_check(struct tulpavice_lot vma, struct tulpavice_lot voids,
+/* Checks a pay sheet for the lots of three characteristics, all by one edition of a store, a price in cents a ton and a
+   quantity in hundredths of a ton. Accepted is the sheet that the calls above give for them, and no other. The refusals in
+   this order: 11; then all of the first lot's, as tulpavice_evaluate_lot gives them, all of the second's, all of the third's;
+   then 9 for price or quantity, and then 9 for the sheet. A PWL or a composite that cannot be, such as 10,001, is no refusal
+   but differs. */
+struct tulpavice_checked tulpavice_check(const uint8_t *store, size_t store_size, uint32_t edition,
+                                         struct tulpavice_lot vma, struct tulpavice_lot voids,
                                          struct tulpavice_lot density, int64_t price, int64_t quantity,
                                          struct tulpavice_sheet sheet);
 
@@ -227,20 +280,24 @@ struct tulpavice_checked tulpavice_check(struct tulpavice_lot vma, struct tulpav
 struct tulpavice_listed tulpavice_compare(struct tulpavice_sheet first, struct tulpavice_sheet second, int64_t *out,
                                           size_t room);
 
-/* The notebook's row, of readings that come as bytes, four to each, two's complement, highest first, as in a record.
-   Each double is one division of exact doubles, and 0 where the lot is refused. Refusals 4 to 7 and 10. */
-struct tulpavice_row tulpavice_row(const uint8_t *readings, size_t size, int32_t upper, uint32_t upper_present,
-                                   int32_t lower, uint32_t lower_present);
+/* The notebook's row, by the edition of that number in a store, of readings that come as bytes, four to each, two's
+   complement, highest first, as in a record. Each double is one division of exact doubles, and 0 where the lot is refused.
+   Refusals 11, 4 to 7, 13 and 10. */
+struct tulpavice_row tulpavice_row(const uint8_t *store, size_t store_size, uint32_t edition, const uint8_t *readings,
+                                   size_t size, int32_t upper, uint32_t upper_present, int32_t lower,
+                                   uint32_t lower_present);
 
 /* The same, its refusal and each of its doubles by a call of its own: no more is worked out than is asked for. */
-struct tulpavice_refusal tulpavice_row_refusal(const uint8_t *readings, size_t size, int32_t upper,
+struct tulpavice_refusal tulpavice_row_refusal(const uint8_t *store, size_t store_size, uint32_t edition,
+                                               const uint8_t *readings, size_t size, int32_t upper,
                                                uint32_t upper_present, int32_t lower, uint32_t lower_present);
-double tulpavice_row_mean(const uint8_t *readings, size_t size, int32_t upper, uint32_t upper_present, int32_t lower,
-                          uint32_t lower_present);
-double tulpavice_row_deviation(const uint8_t *readings, size_t size, int32_t upper, uint32_t upper_present,
-                               int32_t lower, uint32_t lower_present);
-double tulpavice_row_pwl(const uint8_t *readings, size_t size, int32_t upper, uint32_t upper_present, int32_t lower,
-                         uint32_t lower_present);
+double tulpavice_row_mean(const uint8_t *store, size_t store_size, uint32_t edition, const uint8_t *readings,
+                          size_t size, int32_t upper, uint32_t upper_present, int32_t lower, uint32_t lower_present);
+double tulpavice_row_deviation(const uint8_t *store, size_t store_size, uint32_t edition, const uint8_t *readings,
+                               size_t size, int32_t upper, uint32_t upper_present, int32_t lower,
+                               uint32_t lower_present);
+double tulpavice_row_pwl(const uint8_t *store, size_t store_size, uint32_t edition, const uint8_t *readings, size_t size,
+                         int32_t upper, uint32_t upper_present, int32_t lower, uint32_t lower_present);
 
 #ifdef __cplusplus
 }

@@ -1,6 +1,6 @@
 -- What holds of readings and of a lot that are not refused.
 use mathlib.Core.Path.{_≡_, refl, sym, ap, _∙_}
-use mathlib.Core.Bool.{true, false, and-eq-true-iff, _||_}
+use mathlib.Core.Bool.{Bool, true, false, cond, not, and-eq-true-iff, _||_, _&&_}
 use mathlib.Core.List.{List, [], _∷_, _++_}
 use Prim.Native.Nat.{ℕ, _≤_}
 use borrow.Author.Tests.{leb-true, not-false}
@@ -11,20 +11,25 @@ use Rattle.rules.specs.declared.Limit.{Limit}
 use Rattle.rules.specs.declared.Limit.the-variants.{Absent}
 use Rattle.rules.specs.declared.Totals.{Totals}
 use Rattle.rules.specs.declared.TotalsAnswer.{TotalsAnswer}
+use Rattle.rules.specs.declared.Columned.{Columned}
+use Rattle.rules.specs.declared.ColumnAnswer.{ColumnAnswer}
+use Rattle.rules.specs.declared.store.Named.{Named}
 use Rattle.rules.specs.declared.Refusal.{Refusal}
 use Rattle.rules.specs.declared.Percentages.{Percentages}
 use Rattle.rules.specs.Said.{Case, refused, answers, checked}
 use Rattle.rules.specs.Lot.{Lot, lot-of, most}
-use Rattle.rules.specs.Table.{Found, table-106-1, has-column, entries}
+use Rattle.rules.specs.Table.{Table, Found, no-column, a-column, has-store, has-column, entries}
 use Rattle.rules.specs.Percent.{Rule, totals}
-use Rattle.rules.specs.Refusals.{allowed, count-case, out-of-range, any-out, range-case, unlimited-case, crossed, crossed-case, column-case}
+use Rattle.rules.specs.Edition.{first-field, last-field, column-of, table-of}
+use Rattle.rules.specs.Refusals.{allowed, count-case, out-of-range, any-out, range-case, unlimited-case, crossed, crossed-case, store-case, edition-case, column-case}
 use Rattle.rules.specs.Meets.{readings-meet, limits-meet, lot-meets, counted-meets, column-meets, evaluation-meets}
 use Rattle.rules.specs.Answers.{totals-said}
-use Rattle.rules.specs.Entries.{percentages-of, percentages, column-for, evaluated}
-use Rattle.laws.specs.Totalled.{totals-says, with-column-say, lot-totals, totalled, by-table}
+use Rattle.rules.specs.Entries.{percentages-of, percentages, evaluated}
+use Rattle.laws.specs.StoreWalk.{table-at}
+use Rattle.laws.specs.Totalled.{totals-says, found-say, with-column-say, columned-said, lot-totals, totalled, by-table}
 use Rattle.laws.specs.Bounds.{Accepted, Bounded}
 use Rattle.laws.specs.Moved.{Counted}
-use Rattle.laws.proofs.Ruled.{none-met, none-of-either, ruled-answers, ruled-then, ruled-unrefused, totals-answered, totals-refused}
+use Rattle.laws.proofs.Ruled.{ruled-met, ruled-passed, none-met, none-of-either, ruled-answers, refused-alike, ruled-then, ruled-unrefused, totals-answered}
 use Rattle.laws.proofs.Tests.{neither}
 use Rattle.laws.proofs.Bounds.{totals-bounded}
 
@@ -90,29 +95,49 @@ lot-accepted lot e =
 
 -- Where no refusal is given for a column, there is one.
 pub column-found : (found : Found) → checked (column-meets found) ≡ answers tt → has-column found ≡ true
-column-found found e = not-false (has-column found) (none-met (column-case found) [] e .0)
+column-found found e =
+    let edition = none-met (edition-case found) (column-case found ∷ []) e in
+    not-false (has-column found) (none-met (column-case found) [] (edition .1) .0)
 
--- To ask for a column after all else is to have that case last.
-pub totalled-with-column : (meets : Lot → List Case) (lot : Lot) → with-column-say (totalled meets lot) ≡ totalled (λ l. meets l ++ column-meets (column-for l)) lot
+-- An edition is found in a store.
+edition-has-store : (e : List ℕ) (n : ℕ) → has-store (table-of e n) ≡ true
+unfolding table-of
+edition-has-store e n = by (column-of e n) (leb (first-field e) n && leb n (last-field e))
+  where
+    by : (column : List ℕ) (b : Bool) → has-store (cond b (a-column column) no-column) ≡ true
+    by column true = refl
+    by column false = refl
+
+-- To look for the store before all else and for a column after it is to have these cases first and last.
+pub totalled-with-column :
+    (named : Named) (s : List ℕ) (meets : Lot → List Case) (lot : Lot) →
+    with-column-say named s (totalled meets lot) ≡
+    totalled (λ l. store-case (table-at named s (l .n)) ∷ (meets l ++ column-meets (table-at named s (l .n)))) lot
 unfolding totalled
-totalled-with-column meets lot = ruled-then (meets lot) (column-meets (column-for lot)) (lot-totals lot) with-column-say (λ r. refl) refl
+totalled-with-column Named.Unsound s meets lot = sym (ruled-met _ _ _ refl)
+totalled-with-column Named.Unknown s meets lot =
+    ruled-then (meets lot) _ (lot-totals lot) (found-say (table-at Named.Unknown s)) (λ r. refl) refl
+    ∙ sym (ruled-passed _ _ _ refl)
+totalled-with-column (Named.Starts start) s meets lot =
+    ruled-then (meets lot) _ (lot-totals lot) (found-say (table-at (Named.Starts start) s)) (λ r. refl) refl
+    ∙ sym (ruled-passed _ _ _ (ap not (edition-has-store _ (lot .n))))
 
 -- A lot whose totals are answered where a percentage is asked for is not refused and has a column, and the totals are its own and in bounds, if its
 -- readings are as many as it says.
-pub record LotTotalled (lot : Lot) (a : Totals) : Type 0 where
-  pub unrefused : checked (by-table lot) ≡ answers tt
+pub record LotTotalled (table : Table) (lot : Lot) (a : Totals) : Type 0 where
+  pub unrefused : checked (by-table table lot) ≡ answers tt
   pub same : lot-totals lot ≡ a
   pub accepted : LotAccepted lot
   pub bounded : Bounded a
-  pub column : has-column (table-106-1 (a .n)) ≡ true
+  pub column : has-column (table (a .n)) ≡ true
 
 pub lot-totalled :
-    (lot : Lot) {t : TotalsAnswer} {a : Totals} → Counted lot →
-    totals-said t ≡ totalled by-table lot → t ≡ TotalsAnswer.Answers a → LotTotalled lot a
+    (table : Table) (lot : Lot) {t : ColumnAnswer} {c : Columned} → Counted lot →
+    columned-said t ≡ totalled (by-table table) lot → t ≡ ColumnAnswer.Answers c → LotTotalled table lot (c .totals)
 unfolding totalled evaluation-meets
-lot-totalled lot counted e h =
-    let r = totals-answered (by-table lot) (lot-totals lot) e h in
-    let none = none-of-either (counted-meets lot) (column-meets (column-for lot)) (r .0) in
+lot-totalled table lot counted e h =
+    let r = ruled-answers (by-table table lot) (lot-totals lot) _ (sym e ∙ ap columned-said h) in
+    let none = none-of-either (counted-meets lot) (column-meets (table (lot .n))) (none-met (store-case (table (lot .n))) _ (r .0) .1) in
     let ok = lot-accepted lot (none .0) in
     let size : length (lot .readings) ≡ lot .n = counted (ok .few) in
     record {
@@ -122,7 +147,7 @@ lot-totalled lot counted e h =
       bounded =
           totals-bounded {xs = lot .readings} (record { least = rw size (ok .least); few = rw size (ok .few); all-in-range = ok .all-in-range })
           (sym (r .1) ∙ ap (λ (m : ℕ). totals m (lot .readings)) (sym size));
-      column = ap (λ (b : Totals). has-column (table-106-1 (b .n))) (sym (r .1)) ∙ column-found (column-for lot) (none .1);
+      column = ap (λ (b : Totals). has-column (table (b .n))) (sym (r .1)) ∙ column-found (table (lot .n)) (none .1);
     }
 
 -- The readings of an accepted lot that is a lent list with two limits are accepted.
@@ -133,22 +158,24 @@ lent-readings h = record { least = h .least; few = h .few; all-in-range = h .all
 
 -- Where a lot's totals are answered, its evaluation is worked out from them,
 pub totalled-is-evaluated :
-    (rule : Rule) {lot : Lot} {a : Totals} → LotTotalled lot a →
-    answers (percentages-of rule (entries (table-106-1 (a .n))) a (lot .upper) (lot .lower)) ≡ evaluated rule (column-for lot) lot
+    (rule : Rule) {table : Table} {lot : Lot} {a : Totals} → LotTotalled table lot a →
+    answers (percentages-of rule (entries (table (a .n))) a (lot .upper) (lot .lower)) ≡ evaluated rule (table (lot .n)) lot
 unfolding evaluated
-totalled-is-evaluated rule {lot} h =
-    ap (λ (b : Totals). answers (percentages-of rule (entries (table-106-1 (b .n))) b (lot .upper) (lot .lower))) (sym (h .same))
+totalled-is-evaluated rule {table} {lot} h =
+    ap (λ (b : Totals). answers (percentages-of rule (entries (table (b .n))) b (lot .upper) (lot .lower))) (sym (h .same))
     ∙ sym (ruled-unrefused _ _ (h .unrefused))
 
 -- and where they are refused, its evaluation is the same refusal.
-pub untotalled-is-refused : (rule : Rule) (lot : Lot) {t : TotalsAnswer} {r : Refusal} → totals-said t ≡ totalled by-table lot → t ≡ TotalsAnswer.Refused r → evaluated rule (column-for lot) lot ≡ refused r
+pub untotalled-is-refused :
+    (rule : Rule) (table : Table) (lot : Lot) {t : ColumnAnswer} {r : Refusal} →
+    columned-said t ≡ totalled (by-table table) lot → t ≡ ColumnAnswer.Refused r → evaluated rule (table (lot .n)) lot ≡ refused r
 unfolding evaluated totalled
-untotalled-is-refused rule lot e h = totals-refused (by-table lot) (lot-totals lot) e _ h
+untotalled-is-refused rule table lot e h = refused-alike (by-table table lot) (lot-totals lot) _ (sym e ∙ ap columned-said h)
 
 -- An evaluation that is answered has the lot's percentages, its lot is not refused, and there is a column.
 pub answered : (rule : Rule) (found : Found) (lot : Lot) (p : Percentages) → evaluated rule found lot ≡ answers p → LotAccepted lot × (percentages rule (entries found) lot ≡ p) × (has-column found ≡ true)
 unfolding evaluated evaluation-meets
 answered rule found lot p e =
     let r = ruled-answers (evaluation-meets found lot) (percentages rule (entries found) lot) p e in
-    let none = none-of-either (counted-meets lot) (column-meets found) (r .0) in
+    let none = none-of-either (counted-meets lot) (column-meets found) (none-met (store-case found) _ (r .0) .1) in
     (lot-accepted lot (none .0), r .1, column-found found (none .1))

@@ -5,7 +5,7 @@ use mathlib.Core.List.{[], _∷_}
 use Prim.Native.Nat.{ℕ, _-_}
 use lib.ListN.{getD}
 use Rattle.rules.specs.declared.Refusal.{Refusal}
-use Rattle.rules.specs.declared.Refusal.the-variants.{Size, Version, Flags, Count, Range, Unlimited, Crossed, Room, Number, NoColumn}
+use Rattle.rules.specs.declared.Refusal.the-variants.{Size, Version, Flags, Count, Range, Unlimited, Crossed, Room, Number, NoColumn, Unsound, NotRising, NoEdition}
 use Rattle.rules.specs.declared.TotalsAnswer.{TotalsAnswer}
 use Rattle.rules.specs.declared.MeanAnswer.{MeanAnswer}
 use Rattle.rules.specs.declared.DeviationAnswer.{DeviationAnswer}
@@ -15,13 +15,14 @@ use Rattle.rules.specs.declared.MixtureAnswer.{MixtureAnswer}
 use Rattle.rules.specs.declared.Outcome.{Outcome}
 use Rattle.rules.specs.declared.WriteAnswer.{WriteAnswer}
 use Rattle.rules.specs.declared.ListAnswer.{ListAnswer}
+use Rattle.rules.specs.declared.PlaceAnswer.{PlaceAnswer}
 use Rattle.rules.specs.declared.PwlAnswer.{PwlAnswer}
 use Rattle.rules.specs.declared.SheetAnswer.{SheetAnswer}
 use Rattle.rules.specs.declared.CheckAnswer.{CheckAnswer}
 use Rattle.rules.specs.declared.RowAnswer.{RowAnswer}
 use Rattle.rules.specs.Said.{Said, refused, answers}
 use Rattle.rules.specs.Refusals.{number-of}
-use Rattle.rules.specs.Answers.{totals-said, mean-said, deviation-said, evaluation-said, pay-said, mixture-said, outcome-said, ReadSaid, read-said, write-said, list-said, pwl-said, sheet-said, check-said, row-said}
+use Rattle.rules.specs.Answers.{totals-said, mean-said, deviation-said, evaluation-said, pay-said, mixture-said, outcome-said, ReadSaid, read-said, write-said, list-said, place-said, pwl-said, sheet-said, check-said, row-said}
 
 -- If f x = f y, then x = y.
 abbrev pub Injective : {A B : Type 0} → (A → B) → Type 0
@@ -33,7 +34,7 @@ read-back f g back x y e = sym (back x) ∙ ap g e ∙ back y
 
 -- the refusal of a number
 refusal : ℕ → Refusal
-refusal k = getD (Size ∷ Version ∷ Flags ∷ Count ∷ Range ∷ Unlimited ∷ Crossed ∷ Room ∷ Number ∷ NoColumn ∷ []) (k - 1) Size
+refusal k = getD (Size ∷ Version ∷ Flags ∷ Count ∷ Range ∷ Unlimited ∷ Crossed ∷ Room ∷ Number ∷ NoColumn ∷ Unsound ∷ NotRising ∷ NoEdition ∷ []) (k - 1) Size
 
 refusal-back : (r : Refusal) → refusal (number-of r) ≡ r
 unfolding refusal
@@ -47,6 +48,9 @@ refusal-back Crossed = refl
 refusal-back Room = refl
 refusal-back Number = refl
 refusal-back NoColumn = refl
+refusal-back Unsound = refl
+refusal-back NotRising = refl
+refusal-back NoEdition = refl
 
 pub number-injective : Injective number-of
 number-injective = read-back number-of refusal refusal-back
@@ -95,6 +99,11 @@ pub list-injective : Injective list-said
 list-injective =
     read-back list-said (read ListAnswer.Answers ListAnswer.Refused)
     (elim [ ListAnswer.Answers a ↦ refl | ListAnswer.Refused r ↦ refl ])
+
+pub place-injective : Injective place-said
+place-injective =
+    read-back place-said (read PlaceAnswer.Answers PlaceAnswer.Refused)
+    (elim [ PlaceAnswer.Answers a ↦ refl | PlaceAnswer.Refused r ↦ refl ])
 
 pub pwl-injective : Injective pwl-said
 pwl-injective =

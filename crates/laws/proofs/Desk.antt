@@ -20,7 +20,7 @@ use Rattle.laws.proofs.Deviation.{only-deviation-meets}
 found : (n v : ℕ) {s : ℕ} → 2 ≤ n → T (is-deviation n (pos v) s) → _≡_ {A = Said Thousandths} (answers (thousandths (pos (deviation n (pos v))))) (answers (thousandths (pos s)))
 found n v {s} low t = ap (λ (m : ℕ). answers (thousandths (pos m))) (only-deviation-meets n v s low t)
 
-pub desk : Every Holds examples
+pub desk : Every (Holds table-106-1) examples
 unfolding ruled rows table-106-1 sum squares spread upper-distance lower-distance index-squared midpoint-squared admits largest nearest side upper-side lower-side any-out readings-meet evaluation-meets evaluated evaluation-says deviation-says percentages-of
 desk =
     refl then  -- D1
@@ -37,6 +37,6 @@ desk =
     found 2 1000000000000 (lit≤ tt) tt then  -- D10
     done
 
-pub corrected-entries : Every Holds corrected
+pub corrected-entries : Every (Holds table-106-1) corrected
 unfolding ruled rows table-106-1 sum squares spread upper-distance lower-distance index-squared midpoint-squared admits largest nearest side upper-side lower-side any-out evaluation-meets evaluated evaluation-says percentages-of
 corrected-entries = refl then refl then refl then done

@@ -73,7 +73,7 @@ seventeen = lot-of (at 4000) Absent (replicate 17 (pos 4000))
 
 pub seventeen-are-averaged-and-written :
     (mean-says (seventeen .readings) ≡ answers (record { total = thousandths (pos 68000); count = 17 })) ×
-    (evaluation-says seventeen ≡ refused NoColumn) ×
+    (evaluation-says table-106-1 seventeen ≡ refused NoColumn) ×
     (write-says seventeen (replicate 81 0) ≡ answers 81) ×
     (mean-says (replicate 18 (pos 4000)) ≡ refused Count)
 unfolding mean-says readings-meet evaluation-says evaluated evaluation-meets table-106-1 write-says write-meets ruled record-of head-of spell in-fours any-out sum

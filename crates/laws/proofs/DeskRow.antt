@@ -44,23 +44,23 @@ unfolding ofBits
 row-is-given = (λ row. refl, refl)
 
 -- D9 as bytes: of 0 and 1, with an upper limit of 1.
-pub d9-row : row-says (at 1) Absent (in-fours (pos 0 ∷ pos 1 ∷ [])) ≡ answers (row-of (pos 1) 2 (pos 1) (pos 7349))
+pub d9-row : row-says table-106-1 (at 1) Absent (in-fours (pos 0 ∷ pos 1 ∷ [])) ≡ answers (row-of (pos 1) 2 (pos 1) (pos 7349))
 unfolding row-says row-meets lent-lot ruled in-fours spell spelled fours any-out sum squares spread upper-distance lower-distance index-squared midpoint-squared admits largest nearest side upper-side lower-side rows table-106-1 percentages-of deviation first-from
 d9-row = refl
 
 -- A size that is not 4n for an allowed n is refusal 4, before any other. 4 · 11 and 4 · 17 bytes have a size that is allowed, and no column: that is
 -- refusal 10, after all others, for equal readings too.
 pub sizes-are-refused :
-    (asked (row-says Absent Absent []) ≡ 4) ×
-    (asked (row-says Absent Absent (replicate 4 0)) ≡ 4) ×
-    (asked (row-says Absent Absent (replicate 7 0)) ≡ 4) ×
-    (asked (row-says Absent Absent (replicate 9 0)) ≡ 4) ×
-    (asked (row-says Absent Absent (replicate 72 0)) ≡ 4) ×
-    (asked (row-says Absent Absent (replicate 8 0)) ≡ 6) ×
-    (asked (row-says Absent Absent (replicate 40 0)) ≡ 6) ×
-    (asked (row-says Absent Absent (replicate 68 0)) ≡ 6) ×
-    (asked (row-says (at 0) (at 1) (replicate 68 0)) ≡ 7) ×
-    (asked (row-says (at 0) Absent (replicate 44 0)) ≡ 10) ×
-    (asked (row-says (at 0) Absent (replicate 68 0)) ≡ 10)
+    (asked (row-says table-106-1 Absent Absent []) ≡ 4) ×
+    (asked (row-says table-106-1 Absent Absent (replicate 4 0)) ≡ 4) ×
+    (asked (row-says table-106-1 Absent Absent (replicate 7 0)) ≡ 4) ×
+    (asked (row-says table-106-1 Absent Absent (replicate 9 0)) ≡ 4) ×
+    (asked (row-says table-106-1 Absent Absent (replicate 72 0)) ≡ 4) ×
+    (asked (row-says table-106-1 Absent Absent (replicate 8 0)) ≡ 6) ×
+    (asked (row-says table-106-1 Absent Absent (replicate 40 0)) ≡ 6) ×
+    (asked (row-says table-106-1 Absent Absent (replicate 68 0)) ≡ 6) ×
+    (asked (row-says table-106-1 (at 0) (at 1) (replicate 68 0)) ≡ 7) ×
+    (asked (row-says table-106-1 (at 0) Absent (replicate 44 0)) ≡ 10) ×
+    (asked (row-says table-106-1 (at 0) Absent (replicate 68 0)) ≡ 10)
 unfolding row-says row-meets lent-lot ruled fours spelled any-out table-106-1
 sizes-are-refused = (refl, refl, refl, refl, refl, refl, refl, refl, refl, refl, refl)

@@ -54,7 +54,7 @@ density = lot-of (at 97000) (at 91500) (tenths (915 ∷ 930 ∷ 929 ∷ 935 ∷ 
 abbrev worked : Sheet
 worked = sheet (pos 9751) (pos 9128) (pos 9256) (pos 998) (pos 0) (pos 63872000)
 
-pub worked-sheet-is-ours : ours-says vma voids density (pos 8000) (pos 800000) ≡ answers worked
+pub worked-sheet-is-ours : ours-says table-106-1 vma voids density (pos 8000) (pos 800000) ≡ answers worked
 unfolding ours-says our-meets our-sheet pwl-of payment factor weighted composite final-pay pay-meets ruled rows table-106-1 sum squares spread upper-distance lower-distance index-squared midpoint-squared admits largest nearest side upper-side lower-side any-out evaluation-meets percentages-of
 worked-sheet-is-ours = refl
 
@@ -98,9 +98,9 @@ past = lot-of (at 3999) Absent (replicate 2 (pos 4000))
 
 -- A lot is rejected for any of the three: factors of 103 and 53 percent, at a dollar a ton and one ton.
 pub rejected-sheets-are-ours :
-    (ours-says past good good (pos 100) (pos 100) ≡ answers (sheet (pos 0) (pos 10000) (pos 10000) (pos 880) (pos 1) (pos 88))) ×
-    (ours-says good past good (pos 100) (pos 100) ≡ answers (sheet (pos 10000) (pos 0) (pos 10000) (pos 880) (pos 1) (pos 88))) ×
-    (ours-says good good past (pos 100) (pos 100) ≡ answers (sheet (pos 10000) (pos 10000) (pos 0) (pos 830) (pos 1) (pos 83)))
+    (ours-says table-106-1 past good good (pos 100) (pos 100) ≡ answers (sheet (pos 0) (pos 10000) (pos 10000) (pos 880) (pos 1) (pos 88))) ×
+    (ours-says table-106-1 good past good (pos 100) (pos 100) ≡ answers (sheet (pos 10000) (pos 0) (pos 10000) (pos 880) (pos 1) (pos 88))) ×
+    (ours-says table-106-1 good good past (pos 100) (pos 100) ≡ answers (sheet (pos 10000) (pos 10000) (pos 0) (pos 830) (pos 1) (pos 83)))
 unfolding ours-says our-meets our-sheet pwl-of payment factor weighted composite final-pay pay-meets ruled table-106-1 sum squares spread upper-distance lower-distance side upper-side lower-side any-out evaluation-meets percentages-of
 rejected-sheets-are-ours = (refl, refl, refl)
 
@@ -143,10 +143,10 @@ bad = sheet (negℤ (pos 1)) (pos 0) (pos 0) (pos 0) (pos 0) (pos 0)
 
 -- An earlier lot's refusal comes before a later one's, whatever the numbers, and both before 9.
 pub lots-come-in-order :
-    (check-says eleven unlimited one (pos 100) (pos 100) full ≡ refused NoColumn) × (check-says unlimited one one (pos 100) (pos 100) full ≡ refused Unlimited) ×
-    (check-says good eleven one (pos 100) (pos 100) full ≡ refused NoColumn) × (check-says good good one (negℤ (pos 1)) (pos 100) bad ≡ refused Count) ×
-    (check-says good good good (negℤ (pos 1)) (pos 100) full ≡ refused Number) × (check-says good good good (pos 100) (pos 100000001) full ≡ refused Number) ×
-    (check-says good good good (pos 100) (pos 100) bad ≡ refused Number) × (check-says good good good (pos 100) (pos 100) full ≡ answers Finding.Accepted)
+    (check-says table-106-1 eleven unlimited one (pos 100) (pos 100) full ≡ refused NoColumn) × (check-says table-106-1 unlimited one one (pos 100) (pos 100) full ≡ refused Unlimited) ×
+    (check-says table-106-1 good eleven one (pos 100) (pos 100) full ≡ refused NoColumn) × (check-says table-106-1 good good one (negℤ (pos 1)) (pos 100) bad ≡ refused Count) ×
+    (check-says table-106-1 good good good (negℤ (pos 1)) (pos 100) full ≡ refused Number) × (check-says table-106-1 good good good (pos 100) (pos 100000001) full ≡ refused Number) ×
+    (check-says table-106-1 good good good (pos 100) (pos 100) bad ≡ refused Number) × (check-says table-106-1 good good good (pos 100) (pos 100) full ≡ answers Finding.Accepted)
 unfolding check-says our-meets our-sheet pwl-of payment factor weighted composite final-pay pay-meets ruled table-106-1 sum squares spread upper-distance lower-distance side upper-side lower-side any-out evaluation-meets percentages-of first-of differences differing sheet-numbers
 lots-come-in-order = (refl, refl, refl, refl, refl, refl, refl, refl)
 

@@ -10,7 +10,7 @@ use Rattle.rules.specs.Entries.{evaluated, evaluation-says, percentages-of}
 use Rattle.laws.specs.Every.{Every, done, _then_}
 use Rattle.laws.specs.Tried.{Holds, examples}
 
-pub desk-tried : Every Holds examples
+pub desk-tried : Every (Holds table-106-1) examples
 unfolding ruled rows table-106-1 sum squares spread upper-distance lower-distance index-squared midpoint-squared admits halved handheld rows-tried upper-tried lower-tried any-out evaluation-meets evaluated evaluation-says percentages-of
 desk-tried =
     refl then refl then refl then refl then refl then refl then

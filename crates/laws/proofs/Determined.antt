@@ -21,6 +21,7 @@ use Rattle.rules.specs.declared.Limit.{Limit}
 use Rattle.rules.specs.declared.RowAnswer.{RowAnswer}
 use Rattle.rules.specs.Said.{Said, Case, checked}
 use Rattle.rules.specs.Lot.{Lot}
+use Rattle.rules.specs.Table.{Table}
 use Rattle.rules.specs.Answers.{totals-said, outcome-said, mean-said, deviation-said, evaluation-said, pay-said, mixture-said, read-said, write-said, list-said, sheet-said, check-said, row-said}
 use Rattle.rules.specs.Entries.{mean-says, deviation-says, evaluation-says, pay-says, mixture-says, read-leaves, write-says, after-write, cut-says, after-cut, row-says}
 use Rattle.rules.specs.Check.{ours-says, check-says, compare-says, after-compare}
@@ -39,8 +40,8 @@ pub deviation-determined : (xs : List ℤ) (r q : DeviationAnswer) → deviation
 deviation-determined xs r q e f = deviation-injective r q (e ∙ sym f)
 
 -- of a lent list of readings with two limits, and of a lot in memory
-pub evaluation-determined : (lot : Lot) (r q : Evaluation) → evaluation-said r ≡ evaluation-says lot → evaluation-said q ≡ evaluation-says lot → r ≡ q
-evaluation-determined lot r q e f = evaluation-injective r q (e ∙ sym f)
+pub evaluation-determined : (table : Table) (lot : Lot) (r q : Evaluation) → evaluation-said r ≡ evaluation-says table lot → evaluation-said q ≡ evaluation-says table lot → r ≡ q
+evaluation-determined table lot r q e f = evaluation-injective r q (e ∙ sym f)
 
 -- A read's promise determines the lot that is left in memory too,
 pub read-determined : (bs : List ℕ) (r q : ReadAnswer) → read-said r ≡ read-leaves bs → read-said q ≡ read-leaves bs → r ≡ q
@@ -68,15 +69,15 @@ pub compare-determined :
 compare-determined a b out r q after other e f = (list-injective r q (e .0 ∙ sym (f .0)), e .1 ∙ sym (f .1))
 
 pub check-determined :
-    (vma voids density : Lot) (price quantity : ℤ) (sheet : Sheet) (r q : CheckAnswer) →
-    check-said r ≡ check-says vma voids density price quantity sheet → check-said q ≡ check-says vma voids density price quantity sheet → r ≡ q
-check-determined vma voids density price quantity sheet r q e f = check-injective r q (e ∙ sym f)
+    (table : Table) (vma voids density : Lot) (price quantity : ℤ) (sheet : Sheet) (r q : CheckAnswer) →
+    check-said r ≡ check-says table vma voids density price quantity sheet → check-said q ≡ check-says table vma voids density price quantity sheet → r ≡ q
+check-determined table vma voids density price quantity sheet r q e f = check-injective r q (e ∙ sym f)
 
 -- of our own sheet, which a check holds the other against
 pub ours-determined :
-    (vma voids density : Lot) (price quantity : ℤ) (r q : SheetAnswer) →
-    sheet-said r ≡ ours-says vma voids density price quantity → sheet-said q ≡ ours-says vma voids density price quantity → r ≡ q
-ours-determined vma voids density price quantity r q e f = sheet-injective r q (e ∙ sym f)
+    (table : Table) (vma voids density : Lot) (price quantity : ℤ) (r q : SheetAnswer) →
+    sheet-said r ≡ ours-says table vma voids density price quantity → sheet-said q ≡ ours-says table vma voids density price quantity → r ≡ q
+ours-determined table vma voids density price quantity r q e f = sheet-injective r q (e ∙ sym f)
 
 pub pay-determined :
     (vma voids density price quantity : ℤ) (r q : PayAnswer) →
@@ -88,5 +89,5 @@ pub mixture-determined :
     mixture-said r ≡ mixture-says mixture minimum target → mixture-said q ≡ mixture-says mixture minimum target → r ≡ q
 mixture-determined mixture minimum target r q e f = mixture-injective r q (e ∙ sym f)
 
-pub row-determined : (upper lower : Limit) (bs : List ℕ) (r q : RowAnswer) → row-said r ≡ row-says upper lower bs → row-said q ≡ row-says upper lower bs → r ≡ q
-row-determined upper lower bs r q e f = row-injective r q (e ∙ sym f)
+pub row-determined : (table : Table) (upper lower : Limit) (bs : List ℕ) (r q : RowAnswer) → row-said r ≡ row-says table upper lower bs → row-said q ≡ row-says table upper lower bs → r ≡ q
+row-determined table upper lower bs r q e f = row-injective r q (e ∙ sym f)

@@ -10,7 +10,7 @@ use Rattle.rules.specs.declared.MixtureLimits.{MixtureLimits}
 use Rattle.rules.specs.declared.Row.{Row}
 use Rattle.rules.specs.declared.Finding.{Finding}
 use Rattle.rules.specs.declared.Refusal.{Refusal}
-use Rattle.rules.specs.declared.Refusal.the-variants.{Size, Version, Flags, Count, Range, Unlimited, Crossed, Room, Number, NoColumn}
+use Rattle.rules.specs.declared.Refusal.the-variants.{Size, Version, Flags, Count, Range, Unlimited, Crossed, Room, Number, NoColumn, Unsound, NotRising, NoEdition}
 use Rattle.rules.specs.declared.host.HostRefusal.{HostRefusal}
 use Rattle.rules.specs.declared.host.HostMean.{HostMean}
 use Rattle.rules.specs.declared.host.HostDeviation.{HostDeviation}
@@ -44,6 +44,9 @@ some-number Crossed e = omega arith
 some-number Room e = omega arith
 some-number Number e = omega arith
 some-number NoColumn e = omega arith
+some-number Unsound e = omega arith
+some-number NotRising e = omega arith
+some-number NoEdition e = omega arith
 
 pub refusal-is-zero : {A : Type 0} (said : Said A) → ZeroWhenAnswered (host-refusal said) said
 refusal-is-zero (refused r) = (λ e. absurd (some-number r e), λ a. absurd (let z : _≡_ {A = ℕ} 0 1 = cc (a .1) in omega arith))

@@ -2,11 +2,9 @@
 use mathlib.Core.List.{List}
 use Prim.Native.Nat.{ℕ}
 use lib.IntN.{ℤ}
-use Rattle.rules.specs.declared.Limit.{Limit}
 use Rattle.rules.specs.Lot.{Lot}
-use Rattle.rules.specs.Notebook.{lent-lot}
-use Rattle.rules.specs.Meets.{readings-meet, evaluation-meets, row-meets, read-meets, write-meets, pay-meets, mixture-meets}
-use Rattle.rules.specs.Entries.{mean-says, deviation-says, column-for, evaluated, evaluation-says, read-says, write-says, pay-says, mixture-says, row-says}
+use Rattle.rules.specs.Meets.{readings-meet, read-meets, write-meets, pay-meets, mixture-meets}
+use Rattle.rules.specs.Entries.{mean-says, deviation-says, read-says, write-says, pay-says, mixture-says}
 use Rattle.laws.proofs.Refusals.{LowestGiven, lowest}
 use lib.ListN.{length}
 
@@ -17,14 +15,6 @@ mean-lowest xs = lowest 4 (readings-meet xs) _ tt
 pub deviation-lowest : (xs : List ℤ) → LowestGiven (readings-meet xs) (deviation-says xs)
 unfolding deviation-says readings-meet
 deviation-lowest xs = lowest 4 (readings-meet xs) _ tt
-
-pub evaluation-lowest : (lot : Lot) → LowestGiven (evaluation-meets (column-for lot) lot) (evaluation-says lot)
-unfolding evaluation-says evaluated evaluation-meets
-evaluation-lowest lot = lowest 4 (evaluation-meets (column-for lot) lot) _ tt
-
-pub row-lowest : (upper lower : Limit) (bs : List ℕ) → LowestGiven (row-meets bs (column-for (lent-lot upper lower bs)) (lent-lot upper lower bs)) (row-says upper lower bs)
-unfolding row-says row-meets
-row-lowest upper lower bs = lowest 4 (row-meets bs (column-for (lent-lot upper lower bs)) (lent-lot upper lower bs)) _ tt
 
 pub read-lowest : (bs : List ℕ) → LowestGiven (read-meets bs) (read-says bs)
 unfolding read-says read-meets

@@ -1,6 +1,6 @@
--- Refusal 10 is given where a percentage is asked for, all else is in order and no column is found, and nowhere else.
+-- Refusals 11, 13 and 10 where a percentage is asked for: 11 before all else; 13 and 10 where all else is in order, and 10 nowhere else.
 use mathlib.Core.Path.{_≡_, refl, sym, ap, _∙_, subst}
-use mathlib.Core.Bool.{Bool, true, false, not, _&&_, _||_, and-false}
+use mathlib.Core.Bool.{Bool, true, false, not, _||_, and-false}
 use mathlib.Core.List.{List, [], _∷_}
 use Prim.Native.Nat.{ℕ, _<_}
 use native.Mathlib.Omega.{arith}
@@ -11,48 +11,59 @@ use Rattle.rules.specs.declared.Limit.{Limit}
 use Rattle.rules.specs.declared.Percentages.{Percentages}
 use Rattle.rules.specs.declared.Sheet.{Sheet}
 use Rattle.rules.specs.declared.Refusal.{Refusal}
-use Rattle.rules.specs.declared.Refusal.the-variants.{NoColumn}
+use Rattle.rules.specs.declared.Refusal.the-variants.{NoColumn, Unsound, NoEdition}
 use Rattle.rules.specs.Said.{Said, Case, refused, answers, checked, ruled}
 use Rattle.rules.specs.Lot.{Lot}
-use Rattle.rules.specs.Table.{Found, table-106-1, has-column, entries}
+use Rattle.rules.specs.Table.{Table, Found, no-store, no-edition, no-column, a-column, table-106-1, has-store, entries}
 use Rattle.rules.specs.Percent.{Rule, nearest}
 use Rattle.rules.specs.Refusals.{number-of}
 use Rattle.rules.specs.Notebook.{lent-lot}
 use Rattle.rules.specs.Meets.{readings-meet, counted-meets, column-meets, evaluation-meets, bytes-meet, row-meets, read-meets, write-meets, pay-meets, mixture-meets, cut-meets}
-use Rattle.rules.specs.Entries.{mean-says, deviation-says, column-for, percentages, evaluated, bare, evaluation-says, read-says, write-says, pay-says, mixture-says, cut-says, row-says}
+use Rattle.rules.specs.Entries.{mean-says, deviation-says, percentages, evaluated, bare, evaluation-says, read-says, write-says, pay-says, mixture-says, cut-says, row-says}
 use Rattle.rules.specs.Check.{compare-meets, compare-says}
 use Rattle.laws.proofs.Ruled.{ruled-none, ruled-met, ruled-passed, ruled-first, ruled-later}
-use Rattle.laws.proofs.Table.{table-106-1-has}
 use Rattle.laws.proofs.Refusals.{First, here, later, FirstGiven, first-is-given}
 
 -- ---- where a percentage is asked for, by any rule, whatever V and the limits are
 
-none-above-ten : (n : ℕ) → 10 < n → has-column (table-106-1 n) ≡ false
-none-above-ten n many = table-106-1-has n ∙ ap (_&&_ (leb 2 n)) (lt-leb n 10 many) ∙ and-false (leb 2 n)
-
-module _ (rule : Rule) (found : Found) (lot : Lot) (ok : checked (counted-meets lot) ≡ answers tt) where
-  last : evaluated rule found lot ≡ ruled (column-meets found) (percentages rule (entries found) lot)
+module _ (rule : Rule) (lot : Lot) where
+  -- A buffer that is no store comes before anything that the lot meets.
+  pub no-store-is-refused : evaluated rule no-store lot ≡ refused Unsound
   unfolding evaluated evaluation-meets
-  last = ruled-later (counted-meets lot) (column-meets found) _ ok
+  no-store-is-refused = ruled-met _ _ _ refl
 
-  pub no-column-is-refused : has-column found ≡ false → evaluated rule found lot ≡ refused NoColumn
-  no-column-is-refused none = last ∙ ruled-met _ _ _ (ap not none)
+  module _ (ok : checked (counted-meets lot) ≡ answers tt) where
+    last : (found : Found) → has-store found ≡ true → evaluated rule found lot ≡ ruled (column-meets found) (percentages rule (entries found) lot)
+    unfolding evaluated evaluation-meets
+    last found e = ruled-passed _ _ _ (ap not e) ∙ ruled-later (counted-meets lot) (column-meets found) _ ok
 
-  pub column-is-answered : has-column found ≡ true → evaluated rule found lot ≡ answers (percentages rule (entries found) lot)
-  column-is-answered some = last ∙ ruled-passed _ _ _ (ap not some) ∙ ruled-none _
+    pub no-edition-is-refused : evaluated rule no-edition lot ≡ refused NoEdition
+    no-edition-is-refused = last no-edition refl ∙ ruled-met _ _ _ refl
 
--- So, by Table 106-1, is every lot of 11 to 17 readings that meets nothing else.
-pub more-than-ten-is-refused : (lot : Lot) → checked (counted-meets lot) ≡ answers tt → 10 < lot .n → evaluation-says lot ≡ refused NoColumn
-unfolding evaluation-says
-more-than-ten-is-refused lot ok many = no-column-is-refused nearest (column-for lot) lot ok (none-above-ten (lot .n) many)
+    pub no-column-is-refused : evaluated rule no-column lot ≡ refused NoColumn
+    no-column-is-refused = last no-column refl ∙ ruled-passed _ _ _ refl ∙ ruled-met _ _ _ refl
+
+    pub column-is-answered : (column : List ℕ) → evaluated rule (a-column column) lot ≡ answers (percentages rule column lot)
+    column-is-answered column = last (a-column column) refl ∙ ruled-passed _ _ _ refl ∙ ruled-passed _ _ _ refl ∙ ruled-none _
+
+  -- What the lot meets itself comes before a missing edition and a missing column.
+  pub lot-comes-first : {r : Refusal} (found : Found) → has-store found ≡ true → checked (counted-meets lot) ≡ refused r → evaluated rule found lot ≡ refused r
+  unfolding evaluated evaluation-meets
+  lot-comes-first found e met = ruled-passed _ _ _ (ap not e) ∙ ruled-first (counted-meets lot) (column-meets found) _ met
+
+-- By Table 106-1, every lot of 11 to 17 readings that meets nothing else is refused so.
+pub more-than-ten-is-refused : (lot : Lot) → checked (counted-meets lot) ≡ answers tt → 10 < lot .n → evaluation-says table-106-1 lot ≡ refused NoColumn
+unfolding evaluation-says table-106-1
+more-than-ten-is-refused lot ok many = rw (lt-leb (lot .n) 10 many, and-false (leb 2 (lot .n))) (no-column-is-refused nearest lot ok)
 
 -- The row of bytes meets it in the same way.
 pub row-without-column-is-refused :
-    (upper lower : Limit) (bs : List ℕ) →
-    checked (bytes-meet bs (lent-lot upper lower bs)) ≡ answers tt → has-column (column-for (lent-lot upper lower bs)) ≡ false →
-    row-says upper lower bs ≡ refused NoColumn
+    (table : Table) (upper lower : Limit) (bs : List ℕ) →
+    checked (bytes-meet bs (lent-lot upper lower bs)) ≡ answers tt → table (lent-lot upper lower bs .n) ≡ no-column →
+    row-says table upper lower bs ≡ refused NoColumn
 unfolding row-says row-meets
-row-without-column-is-refused upper lower bs ok none = ruled-later (bytes-meet bs (lent-lot upper lower bs)) _ _ ok ∙ ruled-met _ _ _ (ap not none)
+row-without-column-is-refused table upper lower bs ok none =
+    rw none (ruled-passed _ _ _ refl ∙ ruled-later (bytes-meet bs (lent-lot upper lower bs)) _ _ ok ∙ ruled-passed _ _ _ refl ∙ ruled-met _ _ _ refl)
 
 -- ---- and only there
 
@@ -72,20 +83,18 @@ first-is-among {r} (c ∷ cs) (later off f) = or-right (eqb (number-of (c .refus
 given-is-among : {A : Type 0} (cs : List Case) (a : A) {r : Refusal} → ruled cs a ≡ refused r → T (among (number-of r) cs)
 given-is-among cs a e = first-is-among cs (subst (FirstGiven cs) e (first-is-given cs a))
 
--- Where an evaluation gives it, the lot meets nothing else, and no column is found.
-pub refused-has-no-column : (rule : Rule) (found : Found) (lot : Lot) → evaluated rule found lot ≡ refused NoColumn → (checked (counted-meets lot) ≡ answers tt) × (has-column found ≡ false)
-unfolding evaluated evaluation-meets
-refused-has-no-column rule found lot e = by (checked (counted-meets lot)) refl
+-- Where an evaluation gives it, the lot meets nothing else, and the edition that is named has no column.
+pub refused-has-no-column : (rule : Rule) (found : Found) (lot : Lot) → evaluated rule found lot ≡ refused NoColumn → (checked (counted-meets lot) ≡ answers tt) × (found ≡ no-column)
+refused-has-no-column rule found lot e = by found (checked (counted-meets lot)) refl e
   where
-    none : checked (counted-meets lot) ≡ answers tt → (b : Bool) → has-column found ≡ b → b ≡ false
-    none ok true some = absurd (let z : _≡_ {A = ℕ} 0 1 = cc (sym (column-is-answered rule found lot ok some) ∙ e) in omega arith)
-    none ok false _ = refl
-
-    by : (s : Said (Unit {0})) → checked (counted-meets lot) ≡ s → (checked (counted-meets lot) ≡ answers tt) × (has-column found ≡ false)
-    by (refused r) met =
-        let same : _≡_ {A = Said Percentages} (refused r) (refused NoColumn) = sym (ruled-first (counted-meets lot) (column-meets found) _ met) ∙ e in
-        absurd (given-is-among (counted-meets lot) tt (met ∙ ap bare same))
-    by (answers u) met = (met, none met (has-column found) refl)
+    by : (found : Found) (s : Said (Unit {0})) → checked (counted-meets lot) ≡ s → evaluated rule found lot ≡ refused NoColumn → (checked (counted-meets lot) ≡ answers tt) × (found ≡ no-column)
+    by no-store s met f = absurd (let z : _≡_ {A = ℕ} 0 1 = cc (sym (no-store-is-refused rule lot) ∙ f) in omega arith)
+    by no-edition (answers u) met f = absurd (let z : _≡_ {A = ℕ} 0 1 = cc (sym (no-edition-is-refused rule lot met) ∙ f) in omega arith)
+    by no-column (answers u) met f = (met, refl)
+    by (a-column column) (answers u) met f = absurd (let z : _≡_ {A = ℕ} 0 1 = cc (sym (column-is-answered rule lot met column) ∙ f) in omega arith)
+    by no-edition (refused r) met f = absurd (given-is-among (counted-meets lot) tt (met ∙ ap bare (sym (lot-comes-first rule lot no-edition refl met) ∙ f)))
+    by no-column (refused r) met f = absurd (given-is-among (counted-meets lot) tt (met ∙ ap bare (sym (lot-comes-first rule lot no-column refl met) ∙ f)))
+    by (a-column column) (refused r) met f = absurd (given-is-among (counted-meets lot) tt (met ∙ ap bare (sym (lot-comes-first rule lot (a-column column) refl met) ∙ f)))
 
 -- ---- elsewhere
 

@@ -9,10 +9,12 @@ use Rattle.rules.specs.declared.Sheet.{Sheet}
 use Rattle.rules.specs.declared.Refusal.{Refusal}
 use Rattle.rules.specs.Said.{Said, refused, answers}
 use Rattle.rules.specs.Lot.{Lot}
+use Rattle.rules.specs.Table.{Table}
 use Rattle.rules.specs.Pay.{payment}
 use Rattle.rules.specs.Sheet.{sheet-of}
 use Rattle.rules.specs.Entries.{evaluation-says, pay-says}
 use Rattle.rules.specs.Check.{ours-says}
+use Rattle.laws.specs.Column.{Columns}
 use Rattle.laws.specs.Between.{Between}
 use Rattle.laws.specs.Payable.{Percents}
 use Rattle.laws.specs.Sheet.{SheetTaken, IsOurs}
@@ -30,28 +32,28 @@ abbrev pub value : {A : Type 0} → A → Said A → A
 value other (refused r) = other
 value other (answers a) = a
 
-module _ (vma voids density : Lot) (price quantity : ℤ) where
+module _ (table : Table) (vma voids density : Lot) (price quantity : ℤ) where
   abbrev Ours : Sheet → Type 0
-  Ours = IsOurs vma voids density price quantity
+  Ours = IsOurs table vma voids density price quantity
 
   abbrev ours-said : Said Sheet
-  ours-said = ours-says vma voids density price quantity
+  ours-said = ours-says table vma voids density price quantity
 
   -- Where all lots are answered, it is as the pay is.
-  module _ {p q s : Percentages} (a : evaluation-says vma ≡ answers p) (b : evaluation-says voids ≡ answers q) (c : evaluation-says density ≡ answers s) where
+  module _ {p q s : Percentages} (a : evaluation-says table vma ≡ answers p) (b : evaluation-says table voids ≡ answers q) (c : evaluation-says table density ≡ answers s) where
     pub unpaid : {r : Refusal} → pay-says (p .pwl .0) (q .pwl .0) (s .pwl .0) price quantity ≡ refused r → ours-said ≡ refused r
-    unpaid e = lots-answered vma voids density price quantity (evaluation-answered vma a) (evaluation-answered voids b) (evaluation-answered density c) ∙ unpaid-sheet _ _ _ _ _ e
+    unpaid e = lots-answered table vma voids density price quantity (evaluation-answered table vma a) (evaluation-answered table voids b) (evaluation-answered table density c) ∙ unpaid-sheet _ _ _ _ _ e
 
     paid : {settled : Payment} → pay-says (p .pwl .0) (q .pwl .0) (s .pwl .0) price quantity ≡ answers settled → ours-said ≡ answers (sheet-of (p .pwl .0) (q .pwl .0) (s .pwl .0) settled)
-    paid e = lots-answered vma voids density price quantity (evaluation-answered vma a) (evaluation-answered voids b) (evaluation-answered density c) ∙ paid-sheet _ _ _ _ _ e
+    paid e = lots-answered table vma voids density price quantity (evaluation-answered table vma a) (evaluation-answered table voids b) (evaluation-answered table density c) ∙ paid-sheet _ _ _ _ _ e
 
   pub ours-is-answered : {ours : Sheet} → Ours ours → ours-said ≡ answers ours
   ours-is-answered h = paid (h .vma-answered) (h .voids-answered) (h .density-answered) (h .paid) ∙ ap (λ (sheet : Sheet). answers sheet) (sym (h .same))
 
   pub answered-is-ours : {ours : Sheet} → ours-said ≡ answers ours → Ours ours
-  answered-is-ours {ours} e = first (evaluation-says vma) refl
+  answered-is-ours {ours} e = first (evaluation-says table vma) refl
     where
-      settled : (p q s : Percentages) → evaluation-says vma ≡ answers p → evaluation-says voids ≡ answers q → evaluation-says density ≡ answers s → (said : Said Payment) → pay-says (p .pwl .0) (q .pwl .0) (s .pwl .0) price quantity ≡ said → Ours ours
+      settled : (p q s : Percentages) → evaluation-says table vma ≡ answers p → evaluation-says table voids ≡ answers q → evaluation-says table density ≡ answers s → (said : Said Payment) → pay-says (p .pwl .0) (q .pwl .0) (s .pwl .0) price quantity ≡ said → Ours ours
       settled p q s a b c (refused r) f = absurd (unlike (unpaid a b c f) e)
       settled p q s a b c (answers z) f =
           record {
@@ -66,25 +68,25 @@ module _ (vma voids density : Lot) (price quantity : ℤ) where
             same = ap (value ours) (sym e ∙ paid a b c f);
           }
 
-      third : (p q : Percentages) → evaluation-says vma ≡ answers p → evaluation-says voids ≡ answers q → (said : Said Percentages) → evaluation-says density ≡ said → Ours ours
-      third p q a b (refused r) f = absurd (unlike (third-lot-refused vma voids density price quantity (evaluation-answered vma a) (evaluation-answered voids b) (evaluation-refused density f)) e)
+      third : (p q : Percentages) → evaluation-says table vma ≡ answers p → evaluation-says table voids ≡ answers q → (said : Said Percentages) → evaluation-says table density ≡ said → Ours ours
+      third p q a b (refused r) f = absurd (unlike (third-lot-refused table vma voids density price quantity (evaluation-answered table vma a) (evaluation-answered table voids b) (evaluation-refused table density f)) e)
       third p q a b (answers s) f = settled p q s a b f (pay-says (p .pwl .0) (q .pwl .0) (s .pwl .0) price quantity) refl
 
-      second : (p : Percentages) → evaluation-says vma ≡ answers p → (said : Said Percentages) → evaluation-says voids ≡ said → Ours ours
-      second p a (refused r) f = absurd (unlike (second-lot-refused vma voids density price quantity (evaluation-answered vma a) (evaluation-refused voids f)) e)
-      second p a (answers q) f = third p q a f (evaluation-says density) refl
+      second : (p : Percentages) → evaluation-says table vma ≡ answers p → (said : Said Percentages) → evaluation-says table voids ≡ said → Ours ours
+      second p a (refused r) f = absurd (unlike (second-lot-refused table vma voids density price quantity (evaluation-answered table vma a) (evaluation-refused table voids f)) e)
+      second p a (answers q) f = third p q a f (evaluation-says table density) refl
 
-      first : (said : Said Percentages) → evaluation-says vma ≡ said → Ours ours
-      first (refused r) f = absurd (unlike (first-lot-refused vma voids density price quantity (evaluation-refused vma f)) e)
-      first (answers p) f = second p f (evaluation-says voids) refl
+      first : (said : Said Percentages) → evaluation-says table vma ≡ said → Ours ours
+      first (refused r) f = absurd (unlike (first-lot-refused table vma voids density price quantity (evaluation-refused table vma f)) e)
+      first (answers p) f = second p f (evaluation-says table voids) refl
 
   -- It is there for any lots that evaluation answers and any price and quantity in range: the PWLs are.
   pub ours-is-there :
-      {p q s : Percentages} → evaluation-says vma ≡ answers p → evaluation-says voids ≡ answers q → evaluation-says density ≡ answers s →
+      {p q s : Percentages} → Columns table → evaluation-says table vma ≡ answers p → evaluation-says table voids ≡ answers q → evaluation-says table density ≡ answers s →
       Between (pos 0) (pos 10000000) price → Between (pos 0) (pos 100000000) quantity →
       (ours : Sheet) × Ours ours
-  ours-is-there {p} {q} {s} a b c in-price in-quantity =
-      let percents : Percents (p .pwl .0) (q .pwl .0) (s .pwl .0) = record { vma = answered-in-percent vma a; voids = answered-in-percent voids b; density = answered-in-percent density c } in
+  ours-is-there {p} {q} {s} shape a b c in-price in-quantity =
+      let percents : Percents (p .pwl .0) (q .pwl .0) (s .pwl .0) = record { vma = answered-in-percent table vma shape a; voids = answered-in-percent table voids shape b; density = answered-in-percent table density shape c } in
       let settled = payment (p .pwl .0) (q .pwl .0) (s .pwl .0) price quantity in (
         sheet-of (p .pwl .0) (q .pwl .0) (s .pwl .0) settled,
         record {

@@ -10,11 +10,13 @@ use Rattle.rules.specs.declared.PayAnswer.{PayAnswer}
 use Rattle.rules.specs.declared.host.HostPercentages.{HostPercentages}
 use Rattle.rules.specs.declared.host.HostPayment.{HostPayment}
 use Rattle.rules.specs.Lot.{Lot}
+use Rattle.rules.specs.Table.{Table}
 use Rattle.rules.specs.Percent.{nearest}
 use Rattle.rules.specs.Pay.{factor}
 use Rattle.rules.specs.Answers.{evaluation-said, pay-said}
-use Rattle.rules.specs.Entries.{column-for, evaluation-says, bare, pay-says}
+use Rattle.rules.specs.Entries.{evaluation-says, bare, pay-says}
 use Rattle.rules.specs.Host.{host-percentages, host-payment}
+use Rattle.laws.specs.Column.{Columns}
 use Rattle.laws.specs.Wider.{with-limits, UpperAsWide, LowerAsWide, HasPwl, Widened}
 use Rattle.laws.specs.Given.{given-percentages}
 use Rattle.laws.specs.Paid.{Characteristic, pay-says-of}
@@ -34,62 +36,63 @@ pub higher-payment-is-not-lower :
 higher-payment-is-not-lower which pwl higher x y price quantity a b h e f =
     higher-is-not-paid-less which pwl higher x y price quantity a b h (sym e) (sym f)
 
--- Wider limits on one characteristic never lower its factor, the composite or the pay.
-pub wider-payment-is-not-lower :
-    (lot : Lot) (upper lower : Limit) (p q : Percentages) →
-    (which : Characteristic) (other another price quantity : ℤ) (a b : Payment) →
-    UpperAsWide (lot .upper) upper → LowerAsWide (lot .lower) lower →
-    evaluation-said (Evaluation.Answers p) ≡ evaluation-says lot →
-    evaluation-said (Evaluation.Answers q) ≡ evaluation-says (with-limits upper lower lot) →
-    pay-said (PayAnswer.Answers a) ≡ pay-says-of which (p .pwl .0) other another price quantity →
-    pay-said (PayAnswer.Answers b) ≡ pay-says-of which (q .pwl .0) other another price quantity →
-    (factor (p .pwl .0) ≤ℤ factor (q .pwl .0)) × (a .composite .0 ≤ℤ b .composite .0) × (a .pay .0 ≤ℤ b .pay .0)
-unfolding evaluation-says
-wider-payment-is-not-lower lot upper lower p q which x y price quantity a b above below e f g k =
-    wider-is-not-paid-less nearest (column-for lot) lot upper lower p q which x y price quantity a b (nearest-row-rule (lot .n)) (answered-has-a-column lot p (sym e)) above below (sym e) (sym f) (sym g) (sym k)
+module _ (table : Table) (shape : Columns table) where
+  -- Wider limits on one characteristic never lower its factor, the composite or the pay.
+  pub wider-payment-is-not-lower :
+      (lot : Lot) (upper lower : Limit) (p q : Percentages) →
+      (which : Characteristic) (other another price quantity : ℤ) (a b : Payment) →
+      UpperAsWide (lot .upper) upper → LowerAsWide (lot .lower) lower →
+      evaluation-said (Evaluation.Answers p) ≡ evaluation-says table lot →
+      evaluation-said (Evaluation.Answers q) ≡ evaluation-says table (with-limits upper lower lot) →
+      pay-said (PayAnswer.Answers a) ≡ pay-says-of which (p .pwl .0) other another price quantity →
+      pay-said (PayAnswer.Answers b) ≡ pay-says-of which (q .pwl .0) other another price quantity →
+      (factor (p .pwl .0) ≤ℤ factor (q .pwl .0)) × (a .composite .0 ≤ℤ b .composite .0) × (a .pay .0 ≤ℤ b .pay .0)
+  unfolding evaluation-says
+  wider-payment-is-not-lower lot upper lower p q which x y price quantity a b above below e f g k =
+      wider-is-not-paid-less nearest (table (lot .n)) lot upper lower p q which x y price quantity a b (nearest-row-rule (lot .n)) (answered-has-a-column table shape lot p (sym e)) above below (sym e) (sym f) (sym g) (sym k)
 
--- For the PWLs of two pairs of limits that are both answered, pay answers both times, or gives the same refusal both times.
-pub limits-are-answered-alike :
-    (lot : Lot) (upper lower : Limit) (p q : Percentages) →
-    (which : Characteristic) (other another price quantity : ℤ) (r s : PayAnswer) →
-    evaluation-said (Evaluation.Answers p) ≡ evaluation-says lot →
-    evaluation-said (Evaluation.Answers q) ≡ evaluation-says (with-limits upper lower lot) →
-    pay-said r ≡ pay-says-of which (p .pwl .0) other another price quantity →
-    pay-said s ≡ pay-says-of which (q .pwl .0) other another price quantity →
-    bare (pay-said r) ≡ bare (pay-said s)
-unfolding evaluation-says
-limits-are-answered-alike lot upper lower p q which x y price quantity r s e f g k =
-    ap bare g
-    ∙ limits-are-paid-alike nearest (column-for lot) lot upper lower p q which x y price quantity (nearest-row-rule (lot .n)) (answered-has-a-column lot p (sym e)) (sym e) (sym f)
-    ∙ sym (ap bare k)
+  -- For the PWLs of two pairs of limits that are both answered, pay answers both times, or gives the same refusal both times.
+  pub limits-are-answered-alike :
+      (lot : Lot) (upper lower : Limit) (p q : Percentages) →
+      (which : Characteristic) (other another price quantity : ℤ) (r s : PayAnswer) →
+      evaluation-said (Evaluation.Answers p) ≡ evaluation-says table lot →
+      evaluation-said (Evaluation.Answers q) ≡ evaluation-says table (with-limits upper lower lot) →
+      pay-said r ≡ pay-says-of which (p .pwl .0) other another price quantity →
+      pay-said s ≡ pay-says-of which (q .pwl .0) other another price quantity →
+      bare (pay-said r) ≡ bare (pay-said s)
+  unfolding evaluation-says
+  limits-are-answered-alike lot upper lower p q which x y price quantity r s e f g k =
+      ap bare g
+      ∙ limits-are-paid-alike nearest (table (lot .n)) lot upper lower p q which x y price quantity (nearest-row-rule (lot .n)) (answered-has-a-column table shape lot p (sym e)) (sym e) (sym f)
+      ∙ sym (ap bare k)
 
--- Widened limits never lower the PWL; so all three characteristics' limits widened at once never lower the composite or the pay.
-widened-is-not-lower : {pwl wider : ℤ} → Widened pwl wider → pwl ≤ℤ wider
-widened-is-not-lower {pwl} {wider} h =
-    let p = h .narrow in
-    let q = h .wide in
-    rw (sym (p .2), sym (q .2)) (wider-answer-is-not-lower (h .lot) (h .upper) (h .lower) (p .0) (q .0) (h .upper-as-wide) (h .lower-as-wide) (sym (p .1)) (sym (q .1)) .2)
+  -- Widened limits never lower the PWL; so all three characteristics' limits widened at once never lower the composite or the pay.
+  widened-is-not-lower : {pwl wider : ℤ} → Widened table pwl wider → pwl ≤ℤ wider
+  widened-is-not-lower {pwl} {wider} h =
+      let p = h .narrow in
+      let q = h .wide in
+      rw (sym (p .2), sym (q .2)) (wider-answer-is-not-lower table shape (h .lot) (h .upper) (h .lower) (p .0) (q .0) (h .upper-as-wide) (h .lower-as-wide) (sym (p .1)) (sym (q .1)) .2)
 
-pub all-wider-payment-is-not-lower :
-    {vma voids density vma′ voids′ density′ : ℤ} (price quantity : ℤ) (a b : Payment) →
-    Widened vma vma′ → Widened voids voids′ → Widened density density′ →
-    pay-said (PayAnswer.Answers a) ≡ pay-says vma voids density price quantity →
-    pay-said (PayAnswer.Answers b) ≡ pay-says vma′ voids′ density′ price quantity →
-    (a .composite .0 ≤ℤ b .composite .0) × (a .pay .0 ≤ℤ b .pay .0)
-all-wider-payment-is-not-lower price quantity a b h i j e f =
-    pay-is-not-lower _ _ _ _ _ _ price quantity a b (widened-is-not-lower h) (widened-is-not-lower i) (widened-is-not-lower j) (sym e) (sym f)
+  pub all-wider-payment-is-not-lower :
+      {vma voids density vma′ voids′ density′ : ℤ} (price quantity : ℤ) (a b : Payment) →
+      Widened table vma vma′ → Widened table voids voids′ → Widened table density density′ →
+      pay-said (PayAnswer.Answers a) ≡ pay-says vma voids density price quantity →
+      pay-said (PayAnswer.Answers b) ≡ pay-says vma′ voids′ density′ price quantity →
+      (a .composite .0 ≤ℤ b .composite .0) × (a .pay .0 ≤ℤ b .pay .0)
+  all-wider-payment-is-not-lower price quantity a b h i j e f =
+      pay-is-not-lower _ _ _ _ _ _ price quantity a b (widened-is-not-lower h) (widened-is-not-lower i) (widened-is-not-lower j) (sym e) (sym f)
 
--- The same of what C is given: a PWL, and what is paid.
-pub given-has-pwl : (lot : Lot) (r : HostPercentages) → r ≡ host-percentages (evaluation-says lot) → r .refusal .number ≡ 0 → HasPwl lot (r .pwl)
-given-has-pwl lot r e z = (given-percentages r, percentages-given (evaluation-says lot) r e z, refl)
+  -- The same of what C is given: a PWL, and what is paid.
+  pub given-has-pwl : (lot : Lot) (r : HostPercentages) → r ≡ host-percentages (evaluation-says table lot) → r .refusal .number ≡ 0 → HasPwl table lot (r .pwl)
+  given-has-pwl lot r e z = (given-percentages r, percentages-given (evaluation-says table lot) r e z, refl)
 
-pub all-wider-given-payment-is-not-lower :
-    {vma voids density vma′ voids′ density′ : ℤ} (price quantity : ℤ) (a b : HostPayment) →
-    Widened vma vma′ → Widened voids voids′ → Widened density density′ →
-    a ≡ host-payment (pay-says vma voids density price quantity) → a .refusal .number ≡ 0 →
-    b ≡ host-payment (pay-says vma′ voids′ density′ price quantity) → b .refusal .number ≡ 0 →
-    (a .composite ≤ℤ b .composite) × (a .pay ≤ℤ b .pay)
-all-wider-given-payment-is-not-lower {vma} {voids} {density} {vma′} {voids′} {density′} price quantity a b h i j e z f y =
-    let p = payment-given (pay-says vma voids density price quantity) a e z in
-    let q = payment-given (pay-says vma′ voids′ density′ price quantity) b f y in
-    rw (p .2, q .2) (all-wider-payment-is-not-lower price quantity (p .0) (q .0) h i j (sym (p .1)) (sym (q .1)))
+  pub all-wider-given-payment-is-not-lower :
+      {vma voids density vma′ voids′ density′ : ℤ} (price quantity : ℤ) (a b : HostPayment) →
+      Widened table vma vma′ → Widened table voids voids′ → Widened table density density′ →
+      a ≡ host-payment (pay-says vma voids density price quantity) → a .refusal .number ≡ 0 →
+      b ≡ host-payment (pay-says vma′ voids′ density′ price quantity) → b .refusal .number ≡ 0 →
+      (a .composite ≤ℤ b .composite) × (a .pay ≤ℤ b .pay)
+  all-wider-given-payment-is-not-lower {vma} {voids} {density} {vma′} {voids′} {density′} price quantity a b h i j e z f y =
+      let p = payment-given (pay-says vma voids density price quantity) a e z in
+      let q = payment-given (pay-says vma′ voids′ density′ price quantity) b f y in
+      rw (p .2, q .2) (all-wider-payment-is-not-lower price quantity (p .0) (q .0) h i j (sym (p .1)) (sym (q .1)))

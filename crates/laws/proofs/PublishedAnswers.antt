@@ -1,6 +1,7 @@
 -- What a caller gets is what documents 01 and 004 say (demand 2): any answers that the promises of `quality::evaluate`, `quality::evaluate_held`,
 -- `readings::deviation` and `readings::mean` allow, and those that C gets.
 use mathlib.Core.Path.{_≡_, refl, sym}
+use mathlib.Core.Bool.{true}
 use mathlib.Core.List.{List}
 use Prim.Native.Nat.{ℕ}
 use native.Mathlib.Omega.{arith}
@@ -21,20 +22,19 @@ use Rattle.rules.specs.declared.host.HostPercentages.{HostPercentages}
 use Rattle.rules.specs.Units.{thousandths}
 use Rattle.rules.specs.Said.{answers}
 use Rattle.rules.specs.Lot.{Lot, lot-of, lot-in, places, most}
-use Rattle.rules.specs.Table.{entries}
+use Rattle.rules.specs.Table.{Table, Found, no-store, no-edition, no-column, a-column, has-column, entries}
 use Rattle.rules.specs.Percent.{nearest, sum}
 use Rattle.rules.specs.Meets.{readings-meet}
 use Rattle.rules.specs.Notebook.{lent-limit}
 use Rattle.rules.specs.Answers.{mean-said, deviation-said, evaluation-said}
-use Rattle.rules.specs.Entries.{mean-says, deviation-of, deviation-says, column-for, evaluation-says}
+use Rattle.rules.specs.Entries.{mean-says, deviation-of, deviation-says, evaluation-says}
 use Rattle.rules.specs.Host.{host-mean, host-deviation, host-percentages, given-lot, held-limit, held-lot}
 use Rattle.laws.specs.Ratio.{Is}
 use Rattle.laws.specs.Root.{HalfUpRoot}
 use Rattle.laws.specs.Moved.{Counted}
 use Rattle.laws.specs.PublishedIndex.{published-mean, published-deviation}
-use Rattle.laws.specs.AsPublished.{ByTable106-1}
+use Rattle.laws.specs.AsPublished.{ByTable}
 use Rattle.laws.specs.Given.{given-percentages}
-use Rattle.laws.proofs.Table.{table-106-1-found, table-106-1-counts}
 use Rattle.laws.proofs.Accepted.{readings-accepted, answered}
 use Rattle.laws.proofs.Ruled.{ruled-answers}
 use Rattle.laws.proofs.Lots.{lot-of-counted, lot-in-counted}
@@ -45,41 +45,48 @@ use Rattle.laws.proofs.Given.{mean-given, deviation-given, percentages-
 
 -- ---- percentages
 
-of-lot : (lot : Lot) (p : Percentages) → Counted lot → evaluation-says lot ≡ answers p → ByTable106-1 (lot .upper) (lot .lower) (lot .readings) p
-unfolding evaluation-says
-of-lot lot p counted e =
-    let h = answered nearest (column-for lot) lot p e in
-    let n = table-106-1-counts (lot .n) .0 (h .2) in
-    record {
-      column = entries (column-for lot);
-      found = rw (counted (h .0 .few)) (table-106-1-found (lot .n) (n .0) (n .1));
-      published = evaluated-as-published (column-for lot) lot p counted e;
-    }
+-- What has a column is one.
+found-column : (found : Found) → has-column found ≡ true → found ≡ a-column (entries found)
+found-column (a-column column) e = refl
+found-column no-store e = absurd (let z : _≡_ {A = ℕ} 0 1 = cc in omega arith)
+found-column no-edition e = absurd (let z : _≡_ {A = ℕ} 0 1 = cc in omega arith)
+found-column no-column e = absurd (let z : _≡_ {A = ℕ} 0 1 = cc in omega arith)
 
--- of a lent list of readings with two limits
-pub answer-is-published :
-    (upper lower : Limit) (xs : List ℤ) (p : Percentages) →
-    evaluation-said (Evaluation.Answers p) ≡ evaluation-says (lot-of upper lower xs) → ByTable106-1 upper lower xs p
-answer-is-published upper lower xs p e = of-lot (lot-of upper lower xs) p (lot-of-counted upper lower xs) (sym e)
+module _ (table : Table) where
+  of-lot : (lot : Lot) (p : Percentages) → Counted lot → evaluation-says table lot ≡ answers p → ByTable table (lot .upper) (lot .lower) (lot .readings) p
+  unfolding evaluation-says
+  of-lot lot p counted e =
+      let h = answered nearest (table (lot .n)) lot p e in
+      record {
+        column = entries (table (lot .n));
+        found = rw (counted (h .0 .few)) (found-column (table (lot .n)) (h .2));
+        published = evaluated-as-published (table (lot .n)) lot p counted e;
+      }
 
--- of a lot in memory, which has as many places as a lot can hold
-pub held-answer-is-published :
-    (held : HeldLot) (p : Percentages) → length (held .readings) ≡ most →
-    evaluation-said (Evaluation.Answers p) ≡ evaluation-says (lot-in held) → ByTable106-1 (held .upper) (held .lower) (take (held .count) (places held)) p
-held-answer-is-published held p size e = of-lot (lot-in held) p (lot-in-counted held size) (sym e)
+  -- of a lent list of readings with two limits
+  pub answer-is-published :
+      (upper lower : Limit) (xs : List ℤ) (p : Percentages) →
+      evaluation-said (Evaluation.Answers p) ≡ evaluation-says table (lot-of upper lower xs) → ByTable table upper lower xs p
+  answer-is-published upper lower xs p e = of-lot (lot-of upper lower xs) p (lot-of-counted upper lower xs) (sym e)
 
--- of what C is given for either
-pub given-answer-is-published :
-    (upper : ℤ) (upper-presence : ℕ) (lower : ℤ) (lower-presence : ℕ) (xs : List ℤ) (r : HostPercentages) →
-    r ≡ host-percentages (evaluation-says (given-lot upper upper-presence lower lower-presence xs)) → r .refusal .number ≡ 0 →
-    ByTable106-1 (lent-limit upper upper-presence) (lent-limit lower lower-presence) xs (given-percentages r)
-given-answer-is-published upper up lower lp xs r e z =
-    answer-is-published (lent-limit upper up) (lent-limit lower lp) xs (given-percentages r) (sym (percentages-given _ r e z))
+  -- of a lot in memory, which has as many places as a lot can hold
+  pub held-answer-is-published :
+      (held : HeldLot) (p : Percentages) → length (held .readings) ≡ most →
+      evaluation-said (Evaluation.Answers p) ≡ evaluation-says table (lot-in held) → ByTable table (held .upper) (held .lower) (take (held .count) (places held)) p
+  held-answer-is-published held p size e = of-lot (lot-in held) p (lot-in-counted held size) (sym e)
 
-pub given-lot-answer-is-published :
-    (lot : HostLot) (r : HostPercentages) → r ≡ host-percentages (evaluation-says (lot-in (held-lot lot))) → r .refusal .number ≡ 0 →
-    ByTable106-1 (held-limit (lot .upper)) (held-limit (lot .lower)) (take (lot .count) (places (held-lot lot))) (given-percentages r)
-given-lot-answer-is-published lot r e z = held-answer-is-published (held-lot lot) (given-percentages r) refl (sym (percentages-given _ r e z))
+  -- of what C is given for either
+  pub given-answer-is-published :
+      (upper : ℤ) (upper-presence : ℕ) (lower : ℤ) (lower-presence : ℕ) (xs : List ℤ) (r : HostPercentages) →
+      r ≡ host-percentages (evaluation-says table (given-lot upper upper-presence lower lower-presence xs)) → r .refusal .number ≡ 0 →
+      ByTable table (lent-limit upper upper-presence) (lent-limit lower lower-presence) xs (given-percentages r)
+  given-answer-is-published upper up lower lp xs r e z =
+      answer-is-published (lent-limit upper up) (lent-limit lower lp) xs (given-percentages r) (sym (percentages-given _ r e z))
+
+  pub given-lot-answer-is-published :
+      (lot : HostLot) (r : HostPercentages) → r ≡ host-percentages (evaluation-says table (lot-in (held-lot lot))) → r .refusal .number ≡ 0 →
+      ByTable table (held-limit (lot .upper)) (held-limit (lot .lower)) (take (lot .count) (places (held-lot lot))) (given-percentages r)
+  given-lot-answer-is-published lot r e z = held-answer-is-published (held-lot lot) (given-percentages r) refl (sym (percentages-given _ r e z))
 
 -- ---- deviation and mean
 

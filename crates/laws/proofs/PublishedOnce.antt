@@ -10,10 +10,10 @@ use Rattle.rules.specs.declared.Limit.{Limit}
 use Rattle.rules.specs.declared.Limit.the-variants.{Absent, At}
 use Rattle.rules.specs.declared.Percentages.{Percentages}
 use Rattle.rules.specs.Units.{hundredths}
-use Rattle.rules.specs.Table.{entry, entries}
+use Rattle.rules.specs.Table.{Table, entry, entries}
 use Rattle.laws.specs.Ratio.{Ratio}
 use Rattle.laws.specs.Root.{Root, BelowZero}
-use Rattle.laws.specs.AsPublished.{LookedUp, SideAsPublished, UpperAsPublished, LowerAsPublished, AsPublished, ByTable106-1, SamePercentages}
+use Rattle.laws.specs.AsPublished.{LookedUp, SideAsPublished, UpperAsPublished, LowerAsPublished, AsPublished, ByTable, SamePercentages}
 use Rattle.laws.proofs.Spread.{all-equal-or-not}
 use Rattle.laws.proofs.NearestRow.{nearest-determined}
 
@@ -45,8 +45,8 @@ published-determined column upper lower xs p q h k =
     let w : p .pwl .0 ≡ q .pwl .0 = h .pwl ∙ (λ i. (u i +ℤ l i) -ℤ pos 10000) ∙ sym (k .pwl) in
     (ap hundredths u, ap hundredths l, ap hundredths w)
 
--- Nor are any by Table 106-1, which has one column for a count.
-pub by-table-determined : (upper lower : Limit) (xs : List ℤ) (p q : Percentages) → ByTable106-1 upper lower xs p → ByTable106-1 upper lower xs q → SamePercentages p q
-by-table-determined upper lower xs p q h k =
+-- Nor are any by one table, which has one column for a count.
+pub by-table-determined : (table : Table) (upper lower : Limit) (xs : List ℤ) (p q : Percentages) → ByTable table upper lower xs p → ByTable table upper lower xs q → SamePercentages p q
+by-table-determined table upper lower xs p q h k =
     let same : h .column ≡ k .column = ap entries (sym (h .found) ∙ k .found) in
     published-determined (k .column) upper lower xs p q (rw same at (h .published)) (k .published)

@@ -1,6 +1,7 @@
 -- The record's two returns: a lot that is written reads back as the same lot, and a record that is accepted is written again as the same
 -- bytes. So no lot has two records.
 use mathlib.Core.Path.{_≡_, refl, sym, ap, _∙_}
+use mathlib.Core.Bool.{true, not}
 use mathlib.Core.List.{List, [], _∷_, _++_, map}
 use Prim.Native.Nat.{ℕ, _-_, _≤_, _<_}
 use native.Mathlib.Omega.{arith}
@@ -14,6 +15,7 @@ use Rattle.rules.specs.declared.Refusal.the-variants.{Count, Room}
 use Rattle.rules.specs.Units.{thousandths}
 use Rattle.rules.specs.Said.{Said, refused, answers, ruled, checked}
 use Rattle.rules.specs.Lot.{Lot, most, plain, lot-in}
+use Rattle.rules.specs.Table.{Table, has-store}
 use Rattle.rules.specs.Record.{n-field, head-size, lot-of-record, record-of}
 use Rattle.rules.specs.Refusals.{count-case, room-case}
 use Rattle.rules.specs.Meets.{head-meets, lot-meets, counted-meets, evaluation-meets, read-meets, write-meets}
@@ -137,6 +139,6 @@ read-has-all-places bs = by (read-says bs) refl
         )
 
 -- and the blank lot that a refused read leaves there is refused for its count.
-pub blank-is-refused : (r : Refusal) (out : List ℕ) → (evaluation-says (lot-in (held (refused r))) ≡ refused Count) × (write-says (lot-in (held (refused r))) out ≡ refused Count)
+pub blank-is-refused : (table : Table) (r : Refusal) (out : List ℕ) → has-store (table 0) ≡ true → (evaluation-says table (lot-in (held (refused r))) ≡ refused Count) × (write-says (lot-in (held (refused r))) out ≡ refused Count)
 unfolding held evaluation-says evaluated evaluation-meets write-says write-meets
-blank-is-refused r out = (ruled-met _ _ _ refl, ruled-met _ _ _ refl)
+blank-is-refused table r out store = (ruled-passed _ _ _ (ap not store) ∙ ruled-met _ _ _ refl, ruled-met _ _ _ refl)

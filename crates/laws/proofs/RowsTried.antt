@@ -12,10 +12,11 @@ use Rattle.rules.specs.declared.Totals.{Totals}
 use Rattle.rules.specs.declared.Limit.{Limit}
 use Rattle.rules.specs.declared.Limit.the-variants.{Absent, At}
 use Rattle.rules.specs.Table.{last-row}
+use Rattle.rules.specs.Edition.{each}
 use Rattle.rules.specs.Percent.{admits, nearest}
 use Rattle.rules.specs.Halving.{Halving, halved, all-rows, handheld, rows-tried, upper-tried, lower-tried}
 use Rattle.laws.specs.Tried.{tries-by-row}
-use Rattle.laws.proofs.Each.{each, each-at}
+use Rattle.laws.proofs.Each.{each-at}
 use Rattle.laws.proofs.Largest.{largest-passes, none-above}
 use Rattle.laws.proofs.Row.{first-admitted, admits-below, row-at-most}
 use Rattle.laws.proofs.Halving.{Enough, ends-meet, ends-at-largest, tries-at-most, tries-at-least, same-tests-halve-alike}

@@ -25,6 +25,11 @@ module _ {A : Type 0} (c : Case) (cs : List Case) (a : A) where
   unfolding ruled
   ruled-passed e = rw e
 
+-- Cases that say the same say the same after one case more.
+pub ruled-under : {A : Type 0} (c : Case) (cs ds : List Case) (a : A) → ruled cs a ≡ ruled ds a → ruled (c ∷ cs) a ≡ ruled (c ∷ ds) a
+unfolding ruled
+ruled-under c cs ds a e = ap (cond (c .applies) (refused (c .refusal))) e
+
 -- the values, where no refusal is given
 abbrev pub given : {A : Type 0} → A → Said (Unit {0}) → Said A
 given a (refused r) = refused r

@@ -42,8 +42,14 @@ fn show_evaluation(evaluation: Evaluation) {
     }
 }
 
+// The number under which the desk keeps Table 106-1.
+const NUMBER: u16 = 1;
+
+// By Table 106-1, which is a store of one edition by itself.
 fn lot(name: &[u8], readings: &[i32], upper: Limit, lower: Limit) -> Evaluation {
-    let evaluation = evaluate(readings, upper, lower);
+    let mut store = [0; 979];
+    table::edition(NUMBER, &mut store);
+    let evaluation = evaluate(&store, NUMBER as u32, readings, upper, lower);
     words(name);
     words(b": ");
     show_mean(mean(readings));

@@ -10,6 +10,7 @@ use rules::ListAnswer;
 use rules::MeanAnswer;
 use rules::MixtureAnswer;
 use rules::PayAnswer;
+use rules::PlaceAnswer;
 use rules::Refusal;
 use rules::RowAnswer;
 use rules::Thousandths;
@@ -22,15 +23,16 @@ use rules::host::HostMixtureLimits;
 use rules::host::HostPair;
 use rules::host::HostPayment;
 use rules::host::HostPercentages;
+use rules::host::HostPlace;
 use rules::host::HostRefusal;
 use rules::host::HostRow;
 use rules::host::HostTried;
 use rules::host::HostWritten;
 ghost use mathlib.Core.Path.{_≡_};
 ghost use Rattle.rules.specs.Notebook.{lent-limit};
-ghost use Rattle.rules.specs.Answers.{mean-said, deviation-said, evaluation-said, pay-said, mixture-said, write-said, list-said, row-said};
+ghost use Rattle.rules.specs.Answers.{mean-said, deviation-said, evaluation-said, pay-said, mixture-said, write-said, list-said, place-said, row-said};
 ghost use Rattle.rules.specs.Sheet.{verdict-number};
-ghost use Rattle.rules.specs.Host.{refusal-part, host-mean, host-deviation, host-percentages, host-payment, host-pair, host-mixture-limits, host-written, host-listed, host-row};
+ghost use Rattle.rules.specs.Host.{refusal-part, host-mean, host-deviation, host-percentages, host-payment, host-pair, host-mixture-limits, host-written, host-listed, host-place, host-row};
 
 // The part with which every answer begins, where nothing is refused.
 pub const UNREFUSED: HostRefusal = HostRefusal { number: 0 };
@@ -204,6 +206,21 @@ pub fn listed(answer: ListAnswer) -> HostListed
         ListAnswer::Answers(items) => HostListed {
             refusal: UNREFUSED,
             items: items,
+        },
+    }
+}
+
+pub fn place(answer: PlaceAnswer) -> HostPlace
+    ensures { λ r. ⌜ r ≡ host-place (place-said answer) ⌝ }
+{
+    match answer {
+        PlaceAnswer::Refused(refusal) => HostPlace {
+            refusal: refused(refusal),
+            start: 0,
+        },
+        PlaceAnswer::Answers(start) => HostPlace {
+            refusal: UNREFUSED,
+            start: start,
         },
     }
 }

@@ -6,6 +6,10 @@ pub mod Each
 pub mod Search
 pub mod Table
 pub mod ColumnIn
+pub mod Editions
+pub mod StoreLists
+pub mod StoreNamed
+pub mod Columned
 pub mod Refusals
 pub mod Tests
 pub mod Between

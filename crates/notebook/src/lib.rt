@@ -1,4 +1,5 @@
-// The notebook's row: mean, deviation and PWL as doubles, of readings that come as bytes.
+// The notebook's row: mean, deviation and PWL as doubles, of readings that come as bytes, by the edition that is named in a lent store.
+use editions::named;
 use fields::words::walk;
 use host::UNREFUSED;
 use host::refused;
@@ -8,6 +9,8 @@ use quality::with_column;
 use readings::rounded;
 use readings::spread;
 use refusals::allowed;
+use rules::ColumnAnswer;
+use rules::Columned;
 use rules::Limit;
 use rules::Refusal;
 use rules::Row;
@@ -16,19 +19,25 @@ use rules::Totals;
 use rules::TotalsAnswer;
 use rules::host::HostRefusal;
 ghost use mathlib.Core.Path.{_≡_};
-ghost use mathlib.Core.Bool.{true, false};
-ghost use Prim.Native.Nat.{_*_};
+ghost use mathlib.Core.Bool.{false};
+ghost use Prim.Native.Nat.{_+_, _*_, _≤_};
 ghost use lib.IntN.{pos};
-ghost use Rattle.rules.specs.Table.{table-106-1, has-column, entries};
+ghost use lib.ListN.{length, drop};
+ghost use Rattle.rules.specs.Table.{column-in};
+ghost use Rattle.rules.specs.Edition.{column-size};
+ghost use Rattle.rules.specs.Store.{table-in};
 ghost use Rattle.rules.specs.Percent.{nearest, spread};
 ghost use Rattle.rules.specs.Deviation.{deviation};
 ghost use Rattle.rules.specs.Refusals.{out-of-range, size-fits};
+ghost use Rattle.rules.specs.Meets.{bytes-meet};
 ghost use Rattle.rules.specs.Notebook.{lent-lot, over, mean-asked, deviation-asked, pwl-asked};
 ghost use Rattle.rules.specs.Answers.{totals-said, row-said};
 ghost use Rattle.rules.specs.Entries.{percentages-of, row-says};
 ghost use Rattle.rules.specs.Host.{host-refusal};
+ghost use Rattle.laws.specs.Column.{Column};
 ghost use Rattle.laws.specs.Bounds.{Bounded};
-ghost use Rattle.laws.specs.Totalled.{totalled, row-by-table};
+ghost use Rattle.laws.specs.StoreWalk.{named-says, ColumnPlaced};
+ghost use Rattle.laws.specs.Totalled.{columned-said, totalled, row-by-table};
 
 // Each double of a refused lot.
 const REFUSED: f64 = 0.0;
@@ -40,17 +49,24 @@ fn size_fits(size: usize) -> bool
     (size % 4 == 0) & allowed(size / 4)
 }
 
-// The totals of a lot whose readings come as bytes, or the refusal that its row meets: 4 to 7 or 10.
-fn lent(bytes: &[u8], upper: Limit, lower: Limit) -> TotalsAnswer
-    ensures { λ r. ⌜ totals-said r ≡ totalled (row-by-table (now (bytes .entry))) (lent-lot upper lower (now (bytes .entry))) ⌝ }
+// The totals of a lot whose readings come as bytes, or the refusal that the lot meets: 4 to 7.
+fn totals(bytes: &[u8], upper: Limit, lower: Limit) -> TotalsAnswer
+    ensures { λ r. ⌜ totals-said r ≡ totalled (bytes-meet (now (bytes .entry))) (lent-lot upper lower (now (bytes .entry))) ⌝ }
 {
     if size_fits(bytes.len()) {
         let walked = walk(bytes, bytes.len() / 4);
         let said = walked.said;
-        with_column(met(said, upper, lower))
+        met(said, upper, lower)
     } else {
         TotalsAnswer::Refused(Refusal::Count)
     }
+}
+
+// These with the place of the column for their count, or the refusal that the row meets: 11, 4 to 7, 13 or 10.
+fn lent(store: &[u8], edition: u32, bytes: &[u8], upper: Limit, lower: Limit) -> ColumnAnswer
+    ensures { λ r. ⌜ (columned-said r ≡ totalled (row-by-table (table-in (now (store .entry)) edition) (now (bytes .entry))) (lent-lot upper lower (now (bytes .entry)))) × ColumnPlaced (now (store .entry)) (named-says edition (now (store .entry))) r ⌝ }
+{
+    with_column(store, named(store, edition), totals(bytes, upper, lower))
 }
 
 // T over 1000·n: both are exact as doubles, so the quotient is rounded once.
@@ -68,61 +84,61 @@ fn deviation_of(a: Totals) -> f64
     rounded(a.n as u64, spread(a)) as i32 as f64 / 1000 as f64
 }
 
-fn pwl_of(a: Totals, upper: Limit, lower: Limit) -> f64
-    requires { ⌜ Bounded a × (out-of-range upper ≡ false) × (out-of-range lower ≡ false) × (has-column (table-106-1 (a .n)) ≡ true) ⌝ }
-    ensures { λ r. ⌜ r ≡ over (percentages-of nearest (entries (table-106-1 (a .n))) a upper lower .pwl .0) 100 ⌝ }
+fn pwl_of(store: &[u8], lot: Columned, upper: Limit, lower: Limit) -> f64
+    requires { ⌜ Bounded (lot .totals) × (out-of-range upper ≡ false) × (out-of-range lower ≡ false) × (lot .column + column-size ≤ length (now store)) × Column (column-in (drop (lot .column) (now store))) ⌝ }
+    ensures { λ r. ⌜ r ≡ over (percentages-of nearest (column-in (drop (lot .column) (now (store .entry)))) (lot .totals) upper lower .pwl .0) 100 ⌝ }
 {
-    let p = percentages(a, upper, lower);
+    let p = percentages(store, lot, upper, lower);
     p.pwl.0 as i32 as f64 / 100 as f64
 }
 
 // The row of a lot, or the refusal that it meets.
-pub fn row(bytes: &[u8], upper: Limit, lower: Limit) -> RowAnswer
-    ensures { λ r. ⌜ row-said r ≡ row-says upper lower (now (bytes .entry)) ⌝ }
+pub fn row(store: &[u8], edition: u32, bytes: &[u8], upper: Limit, lower: Limit) -> RowAnswer
+    ensures { λ r. ⌜ row-said r ≡ row-says (table-in (now (store .entry)) edition) upper lower (now (bytes .entry)) ⌝ }
 {
-    match lent(bytes, upper, lower) {
-        TotalsAnswer::Refused(refusal) => RowAnswer::Refused(refusal),
-        TotalsAnswer::Answers(a) => RowAnswer::Answers(Row {
-            mean: mean_of(a),
-            deviation: deviation_of(a),
-            pwl: pwl_of(a, upper, lower),
+    match lent(store, edition, bytes, upper, lower) {
+        ColumnAnswer::Refused(refusal) => RowAnswer::Refused(refusal),
+        ColumnAnswer::Answers(c) => RowAnswer::Answers(Row {
+            mean: mean_of(c.totals),
+            deviation: deviation_of(c.totals),
+            pwl: pwl_of(store, c, upper, lower),
         }),
     }
 }
 
 // The refusal alone and, below, each double alone: the search for the deviation runs only where the deviation is asked for.
-pub fn refusal(bytes: &[u8], upper: Limit, lower: Limit) -> HostRefusal
-    ensures { λ r. ⌜ r ≡ host-refusal (row-says upper lower (now (bytes .entry))) ⌝ }
+pub fn refusal(store: &[u8], edition: u32, bytes: &[u8], upper: Limit, lower: Limit) -> HostRefusal
+    ensures { λ r. ⌜ r ≡ host-refusal (row-says (table-in (now (store .entry)) edition) upper lower (now (bytes .entry))) ⌝ }
 {
-    match lent(bytes, upper, lower) {
-        TotalsAnswer::Refused(refusal) => refused(refusal),
-        TotalsAnswer::Answers(_) => UNREFUSED,
+    match lent(store, edition, bytes, upper, lower) {
+        ColumnAnswer::Refused(refusal) => refused(refusal),
+        ColumnAnswer::Answers(_) => UNREFUSED,
     }
 }
 
-pub fn mean(bytes: &[u8], upper: Limit, lower: Limit) -> f64
-    ensures { λ r. ⌜ r ≡ mean-asked (row-says upper lower (now (bytes .entry))) ⌝ }
+pub fn mean(store: &[u8], edition: u32, bytes: &[u8], upper: Limit, lower: Limit) -> f64
+    ensures { λ r. ⌜ r ≡ mean-asked (row-says (table-in (now (store .entry)) edition) upper lower (now (bytes .entry))) ⌝ }
 {
-    match lent(bytes, upper, lower) {
-        TotalsAnswer::Refused(_) => REFUSED,
-        TotalsAnswer::Answers(a) => mean_of(a),
+    match lent(store, edition, bytes, upper, lower) {
+        ColumnAnswer::Refused(_) => REFUSED,
+        ColumnAnswer::Answers(c) => mean_of(c.totals),
     }
 }
 
-pub fn deviation(bytes: &[u8], upper: Limit, lower: Limit) -> f64
-    ensures { λ r. ⌜ r ≡ deviation-asked (row-says upper lower (now (bytes .entry))) ⌝ }
+pub fn deviation(store: &[u8], edition: u32, bytes: &[u8], upper: Limit, lower: Limit) -> f64
+    ensures { λ r. ⌜ r ≡ deviation-asked (row-says (table-in (now (store .entry)) edition) upper lower (now (bytes .entry))) ⌝ }
 {
-    match lent(bytes, upper, lower) {
-        TotalsAnswer::Refused(_) => REFUSED,
-        TotalsAnswer::Answers(a) => deviation_of(a),
+    match lent(store, edition, bytes, upper, lower) {
+        ColumnAnswer::Refused(_) => REFUSED,
+        ColumnAnswer::Answers(c) => deviation_of(c.totals),
     }
 }
 
-pub fn pwl(bytes: &[u8], upper: Limit, lower: Limit) -> f64
-    ensures { λ r. ⌜ r ≡ pwl-asked (row-says upper lower (now (bytes .entry))) ⌝ }
+pub fn pwl(store: &[u8], edition: u32, bytes: &[u8], upper: Limit, lower: Limit) -> f64
+    ensures { λ r. ⌜ r ≡ pwl-asked (row-says (table-in (now (store .entry)) edition) upper lower (now (bytes .entry))) ⌝ }
 {
-    match lent(bytes, upper, lower) {
-        TotalsAnswer::Refused(_) => REFUSED,
-        TotalsAnswer::Answers(a) => pwl_of(a, upper, lower),
+    match lent(store, edition, bytes, upper, lower) {
+        ColumnAnswer::Refused(_) => REFUSED,
+        ColumnAnswer::Answers(c) => pwl_of(store, c, upper, lower),
     }
 }

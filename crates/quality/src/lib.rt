@@ -1,8 +1,11 @@
-// Percent within limits: direct evaluation, of a lent list of readings and of a lot in memory.
+// Percent within limits: direct evaluation, of a lent list of readings and of a lot in memory, by the edition that is named in a lent store.
 mod row;
 mod side;
 
+use editions::named;
 use readings::spread;
+use rules::ColumnAnswer;
+use rules::Columned;
 use rules::Evaluation;
 use rules::HUNDRED_PERCENT;
 use rules::HeldLot;
@@ -13,20 +16,27 @@ use rules::Refusal;
 use rules::Totals;
 use rules::TotalsAnswer;
 use rules::Tried;
+use rules::store::Named;
 use side::lower_side;
 use side::upper_side;
 ghost use mathlib.Core.Path.{_≡_};
-ghost use mathlib.Core.Bool.{true, false};
+ghost use mathlib.Core.Bool.{false};
+ghost use Prim.Native.Nat.{_+_, _≤_};
+ghost use lib.ListN.{length, drop};
 ghost use Rattle.rules.specs.Lot.{lot-of, lot-in};
-ghost use Rattle.rules.specs.Table.{table-106-1, has-column, entries, column-in};
+ghost use Rattle.rules.specs.Table.{column-in};
+ghost use Rattle.rules.specs.Edition.{column-size};
+ghost use Rattle.rules.specs.Store.{table-in};
 ghost use Rattle.rules.specs.Percent.{nearest, within};
 ghost use Rattle.rules.specs.Refusals.{out-of-range};
 ghost use Rattle.rules.specs.Answers.{totals-said, evaluation-said};
 ghost use Rattle.rules.specs.Entries.{percentages-of, evaluation-says};
+ghost use Rattle.laws.specs.Column.{Column};
 ghost use Rattle.laws.specs.ColumnIn.{ColumnIn};
+ghost use Rattle.laws.specs.StoreWalk.{NamedIn, ColumnPlaced};
 ghost use Rattle.laws.specs.Bounds.{Bounded};
 ghost use Rattle.laws.specs.InPercent.{InPercent};
-ghost use Rattle.laws.specs.Totalled.{with-column-say};
+ghost use Rattle.laws.specs.Totalled.{with-column-say, columned-said};
 
 // PWL = upper + lower − 10,000
 fn within(upper: Hundredths, lower: Hundredths) -> Hundredths
@@ -57,52 +67,71 @@ fn by_column(column: &[u8], a: Totals, upper: Limit, lower: Limit) -> Percentage
     }
 }
 
-// What is said of a lot before its percentages are asked for; or 10, where all else is in order and Table 106-1 has no column for the count.
-pub fn with_column(said: TotalsAnswer) -> TotalsAnswer
-    ensures { λ r. ⌜ totals-said r ≡ with-column-say (totals-said said) ⌝ }
+// What is said of a lot where its percentages are asked for, and where its column stands: 11 where the lent bytes are no store, before all that is said
+// of the lot; and after it 13, where the store has no edition of that number, or 10, where the edition has no column for the count.
+// Inner: the entries pass what the same store has of the edition that is named.
+pub fn with_column(store: &[u8], edition: Named, said: TotalsAnswer) -> ColumnAnswer
+    requires { ⌜ NamedIn (now store) edition ⌝ }
+    ensures { λ r. ⌜ (columned-said r ≡ with-column-say edition (now (store .entry)) (totals-said said)) × ColumnPlaced (now (store .entry)) edition r ⌝ }
 {
-    match said {
-        TotalsAnswer::Refused(refusal) => TotalsAnswer::Refused(refusal),
-        TotalsAnswer::Answers(a) => {
-            if table::has_column(a.n as usize) {
-                TotalsAnswer::Answers(a)
-            } else {
-                TotalsAnswer::Refused(Refusal::NoColumn)
+    match edition {
+        Named::Unsound => ColumnAnswer::Refused(Refusal::Unsound),
+        Named::Unknown => match said {
+            TotalsAnswer::Refused(refusal) => ColumnAnswer::Refused(refusal),
+            TotalsAnswer::Answers(_) => ColumnAnswer::Refused(Refusal::NoEdition),
+        },
+        Named::Starts(start) => match said {
+            TotalsAnswer::Refused(refusal) => ColumnAnswer::Refused(refusal),
+            TotalsAnswer::Answers(a) => {
+                if editions::has_column(store, start, a.n as usize) {
+                    ColumnAnswer::Answers(Columned {
+                        totals: a,
+                        column: editions::column(store, start, a.n as usize),
+                    })
+                } else {
+                    ColumnAnswer::Refused(Refusal::NoColumn)
+                }
             }
-        }
+        },
     }
 }
 
-// Both sides and PWL, and the rows tried for each side, by Table 106-1's column for the count, which is looked up here, once.
-// Inner: the entries pass totals and limits of a lot that is not refused and has a column.
-pub fn percentages(a: Totals, upper: Limit, lower: Limit) -> Percentages
-    requires { ⌜ Bounded a × (out-of-range upper ≡ false) × (out-of-range lower ≡ false) × (has-column (table-106-1 (a .n)) ≡ true) ⌝ }
-    ensures { λ r. ⌜ r ≡ percentages-of nearest (entries (table-106-1 (a .n))) a upper lower ⌝ }
+// Both sides and PWL, and the rows tried for each side, by the column where it stands in the store.
+// Inner: the entries pass totals and limits of a lot that is not refused, beside the place of the column for its count.
+pub fn percentages(store: &[u8], lot: Columned, upper: Limit, lower: Limit) -> Percentages
+    requires { ⌜ Bounded (lot .totals) × (out-of-range upper ≡ false) × (out-of-range lower ≡ false) × (lot .column + column-size ≤ length (now store)) × Column (column-in (drop (lot .column) (now store))) ⌝ }
+    ensures { λ r. ⌜ r ≡ percentages-of nearest (column-in (drop (lot .column) (now (store .entry)))) (lot .totals) upper lower ⌝ }
 {
-    let column = table::column(a.n as usize);
-    by_column(&column, a, upper, lower)
+    let column = lot.column;
+    by_column(&store[column..column + 108], lot.totals, upper, lower)
 }
 
 // Direct evaluation, of a lent list of readings.
-pub fn evaluate(readings: &[i32], upper: Limit, lower: Limit) -> Evaluation
-    ensures { λ r. ⌜ evaluation-said r ≡ evaluation-says (lot-of upper lower (now (readings .entry))) ⌝ }
+pub fn evaluate(
+    store: &[u8],
+    edition: u32,
+    readings: &[i32],
+    upper: Limit,
+    lower: Limit,
+) -> Evaluation
+    ensures { λ r. ⌜ evaluation-said r ≡ evaluation-says (table-in (now (store .entry)) edition) (lot-of upper lower (now (readings .entry))) ⌝ }
 {
-    match with_column(lots::lent(readings, upper, lower)) {
-        TotalsAnswer::Refused(refusal) => Evaluation::Refused(refusal),
-        TotalsAnswer::Answers(a) => Evaluation::Answers(percentages(a, upper, lower)),
+    match with_column(store, named(store, edition), lots::lent(readings, upper, lower)) {
+        ColumnAnswer::Refused(refusal) => Evaluation::Refused(refusal),
+        ColumnAnswer::Answers(c) => Evaluation::Answers(percentages(store, c, upper, lower)),
     }
 }
 
 // Direct evaluation, of a lot in memory.
-pub fn evaluate_held(lot: HeldLot) -> Evaluation
-    ensures { λ r. ⌜ evaluation-said r ≡ evaluation-says (lot-in lot) ⌝ }
+pub fn evaluate_held(store: &[u8], edition: u32, lot: HeldLot) -> Evaluation
+    ensures { λ r. ⌜ evaluation-said r ≡ evaluation-says (table-in (now (store .entry)) edition) (lot-in lot) ⌝ }
 {
-    match with_column(lots::held(lot)) {
-        TotalsAnswer::Refused(refusal) => Evaluation::Refused(refusal),
-        TotalsAnswer::Answers(a) => {
+    match with_column(store, named(store, edition), lots::held(lot)) {
+        ColumnAnswer::Refused(refusal) => Evaluation::Refused(refusal),
+        ColumnAnswer::Answers(c) => {
             let upper = lot.upper;
             let lower = lot.lower;
-            Evaluation::Answers(percentages(a, upper, lower))
+            Evaluation::Answers(percentages(store, c, upper, lower))
         }
     }
 }

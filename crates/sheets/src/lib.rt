@@ -2,6 +2,7 @@
 mod entries;
 mod ours;
 
+use editions::named;
 use entries::count;
 use entries::first_of;
 use entries::list;
@@ -18,6 +19,7 @@ use rules::Sheet;
 use rules::SheetAnswer;
 ghost use mathlib.Core.Path.{_≡_};
 ghost use Rattle.rules.specs.Lot.{lot-in};
+ghost use Rattle.rules.specs.Store.{table-in};
 ghost use Rattle.rules.specs.Refusals.{sheet-case};
 ghost use Rattle.rules.specs.Answers.{check-said, list-said};
 ghost use Rattle.rules.specs.Check.{check-says, compare-says, after-compare};
@@ -37,9 +39,11 @@ fn unfit(sheet: Sheet) -> bool
         | outside(GREATEST, sheet.pay.0)
 }
 
-// Accepts the sheet that the rules give for three lots, a price and a quantity, and no other; or names the first entry in which the two differ, with
-// the sheet's number and ours.
+// Accepts the sheet that the rules give for three lots, by one edition, a price and a quantity, and no other; or names the first entry in which the two
+// differ, with the sheet's number and ours.
 pub fn check(
+    store: &[u8],
+    edition: u32,
     vma: HeldLot,
     voids: HeldLot,
     density: HeldLot,
@@ -47,9 +51,9 @@ pub fn check(
     quantity: HundredthTons,
     sheet: Sheet,
 ) -> CheckAnswer
-    ensures { λ r. ⌜ check-said r ≡ check-says (lot-in vma) (lot-in voids) (lot-in density) (price .0) (quantity .0) sheet ⌝ }
+    ensures { λ r. ⌜ check-said r ≡ check-says (table-in (now (store .entry)) edition) (lot-in vma) (lot-in voids) (lot-in density) (price .0) (quantity .0) sheet ⌝ }
 {
-    match ours(vma, voids, density, price, quantity) {
+    match ours(store, named(store, edition), vma, voids, density, price, quantity) {
         SheetAnswer::Refused(refusal) => CheckAnswer::Refused(refusal),
         SheetAnswer::Answers(ours) => {
             if unfit(sheet) {

@@ -3,6 +3,7 @@ use pay::payment;
 use quality::percentages;
 use quality::with_column;
 use rules::Cents;
+use rules::ColumnAnswer;
 use rules::HeldLot;
 use rules::HundredthTons;
 use rules::Hundredths;
@@ -11,8 +12,8 @@ use rules::PwlAnswer;
 use rules::Sheet;
 use rules::SheetAnswer;
 use rules::SheetVerdict;
-use rules::TotalsAnswer;
 use rules::Verdict;
+use rules::store::Named;
 ghost use mathlib.Core.Path.{_≡_};
 ghost use Rattle.rules.specs.Said.{ruled};
 ghost use Rattle.rules.specs.Lot.{lot-in};
@@ -21,18 +22,20 @@ ghost use Rattle.rules.specs.Sheet.{sheet-verdict, sheet-of};
 ghost use Rattle.rules.specs.Meets.{pay-meets};
 ghost use Rattle.rules.specs.Answers.{pwl-said, sheet-said};
 ghost use Rattle.rules.specs.Check.{pwl-says, ours-says};
+ghost use Rattle.laws.specs.StoreWalk.{NamedIn, table-at};
 
 // The PWL of a lot in memory, or the refusal that its evaluation meets: by evaluation's own steps, since a second caller of `evaluate_held` would slow the
 // first (docs/DECISIONS.md).
-fn pwl(lot: HeldLot) -> PwlAnswer
-    ensures { λ r. ⌜ pwl-said r ≡ pwl-says (lot-in lot) ⌝ }
+fn pwl(store: &[u8], edition: Named, lot: HeldLot) -> PwlAnswer
+    requires { ⌜ NamedIn (now store) edition ⌝ }
+    ensures { λ r. ⌜ pwl-said r ≡ pwl-says (table-at edition (now (store .entry))) (lot-in lot) ⌝ }
 {
-    match with_column(lots::held(lot)) {
-        TotalsAnswer::Refused(refusal) => PwlAnswer::Refused(refusal),
-        TotalsAnswer::Answers(a) => {
+    match with_column(store, edition, lots::held(lot)) {
+        ColumnAnswer::Refused(refusal) => PwlAnswer::Refused(refusal),
+        ColumnAnswer::Answers(c) => {
             let upper = lot.upper;
             let lower = lot.lower;
-            let p = percentages(a, upper, lower);
+            let p = percentages(store, c, upper, lower);
             let pwl = p.pwl;
             PwlAnswer::Answers(pwl)
         }
@@ -76,21 +79,25 @@ fn paid(
     }
 }
 
-// Our own sheet, or the first refusal that the lots meet, in their order, and then price and quantity.
+// Our own sheet, or the first refusal that the lots meet, in their order, and then price and quantity. All lots are looked up by one edition.
+// Inner: `check` passes what the same store has of the edition that is named.
 pub fn ours(
+    store: &[u8],
+    edition: Named,
     vma: HeldLot,
     voids: HeldLot,
     density: HeldLot,
     price: Cents,
     quantity: HundredthTons,
 ) -> SheetAnswer
-    ensures { λ r. ⌜ sheet-said r ≡ ours-says (lot-in vma) (lot-in voids) (lot-in density) (price .0) (quantity .0) ⌝ }
+    requires { ⌜ NamedIn (now store) edition ⌝ }
+    ensures { λ r. ⌜ sheet-said r ≡ ours-says (table-at edition (now (store .entry))) (lot-in vma) (lot-in voids) (lot-in density) (price .0) (quantity .0) ⌝ }
 {
-    match pwl(vma) {
+    match pwl(store, edition, vma) {
         PwlAnswer::Refused(refusal) => SheetAnswer::Refused(refusal),
-        PwlAnswer::Answers(a) => match pwl(voids) {
+        PwlAnswer::Answers(a) => match pwl(store, edition, voids) {
             PwlAnswer::Refused(refusal) => SheetAnswer::Refused(refusal),
-            PwlAnswer::Answers(b) => match pwl(density) {
+            PwlAnswer::Answers(b) => match pwl(store, edition, density) {
                 PwlAnswer::Refused(refusal) => SheetAnswer::Refused(refusal),
                 PwlAnswer::Answers(c) => paid(a, b, c, price, quantity),
             },

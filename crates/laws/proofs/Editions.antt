@@ -1,6 +1,6 @@
 -- An accepted edition, in orders; and each of its columns is one of which the laws on lookups hold.
 use mathlib.Core.Path.{_≡_, refl}
-use mathlib.Core.Bool.{Bool, true, false, _&&_}
+use mathlib.Core.Bool.{Bool, true, false, cond, _&&_}
 use mathlib.Core.List.{List}
 use Prim.Native.Nat.{ℕ, _+_, _*_, _-_, _≤_}
 use native.Mathlib.Omega.{arith}
@@ -10,8 +10,8 @@ use lib.Ieee.Fits.{and-l, and-r}
 use lib.ListN.{length}
 use Rattle.rules.specs.Lot.{most}
 use Rattle.rules.specs.Record.{length-field, version-field}
-use Rattle.rules.specs.Table.{well-formed}
-use Rattle.rules.specs.Edition.{first-field, last-field, edition-head, column-size, columns, column-of, each, accepted}
+use Rattle.rules.specs.Table.{no-column, a-column, has-column, well-formed}
+use Rattle.rules.specs.Edition.{first-field, last-field, edition-head, column-size, columns, column-of, each, accepted, table-of}
 use Rattle.laws.specs.Column.{Column}
 use Rattle.laws.specs.StoreWalk.{EditionAccepted}
 use Rattle.laws.proofs.Each.{each-at}
@@ -66,3 +66,12 @@ pub edition-column : (e : List ℕ) → T (accepted e) → (n : ℕ) → first-f
 edition-column e t n low high =
     let a = edition-accepted e t in
     column _ (each-at (λ n. well-formed (column-of e n)) (columns e) (first-field e) (a .passing) n low (omega arith))
+
+-- An edition has a column for n where n runs from its first to its last.
+pub edition-has : (e : List ℕ) (n : ℕ) → has-column (table-of e n) ≡ (leb (first-field e) n && leb n (last-field e))
+unfolding table-of
+edition-has e n = by (column-of e n) (leb (first-field e) n && leb n (last-field e))
+  where
+    by : (column : List ℕ) (b : Bool) → has-column (cond b (a-column column) no-column) ≡ b
+    by column true = refl
+    by column false = refl

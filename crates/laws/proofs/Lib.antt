@@ -8,8 +8,12 @@ pub mod Table
 pub mod ColumnIn
 pub mod Editions
 pub mod StoreLists
+pub mod StoreWalk
 pub mod StoreNamed
 pub mod Columned
+pub mod Twos
+pub mod DefaultEdition
+pub mod PlainSteps
 pub mod Refusals
 pub mod Tests
 pub mod Between

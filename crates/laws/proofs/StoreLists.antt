@@ -1,4 +1,4 @@
--- A store is a plain list of editions, one after the other, and an end; where each edition lies; and what behind the end is never read.
+-- A store is a plain list of editions, one after the other, and an end; where each edition lies; and that what lies behind the end is never read.
 use mathlib.Core.Path.{_≡_, refl, sym, ap, _∙_}
 use mathlib.Core.Bool.{Bool, true, false, _&&_, or-true, false≢true, and-eq-true-iff}
 use mathlib.Core.List.{List, [], _∷_, _++_, append-assoc, append-nil}
@@ -193,16 +193,18 @@ module _ (s : List ℕ) (t : is-store s ≡ true) where
 
 -- ---- what a reader of bytes may rely on
 
--- A buffer that ends at once is a store that holds no edition: one of fewer than two bytes, and one that begins with a zero length.
+-- A buffer that ends at once is a store that holds no edition.
 pub empty-store : (s : List ℕ) → ends s ≡ true → (is-store s ≡ true) × (editions s ≡ [])
 unfolding rising
 empty-store s h =
     let none = entries-end (suc most-editions) s h in
     (ap (rising most-editions 0) none, none)
 
+-- So is one of fewer than two bytes,
 pub short-store : (s : List ℕ) → length s < 2 → (is-store s ≡ true) × (editions s ≡ [])
 short-store s h = empty-store s (ends-short s h)
 
+-- and one that begins with a zero length.
 pub zero-store : (s : List ℕ) → length-field s ≡ 0 → (is-store s ≡ true) × (editions s ≡ [])
 zero-store s h = empty-store s (ends-zero s h)
 
@@ -212,8 +214,8 @@ pub unread-behind :
     (is-store t ≡ true) × (editions t ≡ editions s)
 unread-behind s t r front h =
     let end : ℕ = size-of (editions s) in
-    let whole : joined (editions s) ++ drop end t ≡ t =
-      ap (λ (bs : List ℕ). bs ++ drop end t) (sym (splits s r .whole) ∙ sym front) ∙ take-append-drop end t in
+    let begins : joined (editions s) ≡ take end t = sym (splits s r .whole) ∙ sym front in
+    let whole : joined (editions s) ++ drop end t ≡ t = ap (λ (bs : List ℕ). bs ++ drop end t) begins ∙ take-append-drop end t in
     let same : editions t ≡ editions s = ap editions (sym whole) ∙ joined-editions most-editions 0 (editions s) (drop end t) r h in
     (ap (rising most-editions 0) same ∙ r, same)
 

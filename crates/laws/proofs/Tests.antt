@@ -1,8 +1,10 @@
--- What a test that fails says of its parts, and what decides an order. (borrow.Author.Tests and mathlib.Core.Bool have the others.)
+-- What a test that fails says of its parts, and what decides an order or a count. (borrow.Author.Tests and mathlib.Core.Bool have the others.)
 use mathlib.Core.Path.{_≡_, refl}
 use mathlib.Core.Bool.{Bool, true, false, _||_, true≢false}
 use mathlib.Core.Logic.{_⊎_, inl, inr}
-use Prim.Native.Nat.{ℕ, _≤_, _<_}
+use Prim.Native.Nat.{ℕ, suc, _≤_, _<_}
+use native.Mathlib.Decide.{ℕ-discrete}
+use native.Mathlib.Omega.{arith}
 use borrow.Author.Tests.{leb-true, leb-false}
 use lib.Dec.{leb}
 
@@ -17,3 +19,7 @@ at-least-or-below a b = by (leb a b) refl
     by : (t : Bool) → leb a b ≡ t → (a ≤ b) ⊎ (b < a)
     by true e = inl (leb-true a b e)
     by false e = inr (leb-false a b e)
+
+-- A number from k on is k, or a later one.
+pub this-or-later : {X : Type 0} (k n : ℕ) → k ≤ n → (n ≡ k → X) → (suc k ≤ n → X) → X
+this-or-later k n low here later = elim (ℕ-discrete n k) [ yes e ↦ here e | no h ↦ later (omega arith) ]

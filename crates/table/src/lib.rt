@@ -60,13 +60,8 @@ fn fill(number: u16, out: &mut [u8])
     requires { ⌜ 979 ≤ length (now out) ⌝ }
     ensures { λ _. ⌜ now (out .exit) ≡ edition-106-1 number ++ drop 979 (now (out .entry)) ⌝ }
 {
-    out[0] = 3;
-    out[1] = 209;
-    out[2] = 1;
-    out[3] = (number / 256) as u8;
-    out[4] = (number % 256) as u8;
-    out[5] = 2;
-    out[6] = 10;
+    let head = [3, 209, 1, (number / 256) as u8, (number % 256) as u8, 2, 10];
+    bytes::copy(&head, out);
     let mut n = 2;
     while n <= 10 {
         bytes::copy(&column(n), &mut out[7 + 108 * (n - 2)..]);

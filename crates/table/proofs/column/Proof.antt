@@ -1,18 +1,13 @@
 -- `table::column` answers the column: the constants spell the entries of the printed table, by computation, a count at a time.
-use mathlib.Core.Path.{_≡_}
-use Prim.Native.Nat.{ℕ, suc, _≤_}
+use Prim.Native.Nat.{ℕ}
 use native.Mathlib.Nat.{le-antisymm}
-use native.Mathlib.Decide.{ℕ-discrete}
 use native.Mathlib.Omega.{arith}
 use borrow.Author.Needs.{needs}
 use Rattle.rules.specs.Record.{spelled, twos}
 use Rattle.rules.specs.Table.{rows, table-106-1, column-in}
+use Rattle.laws.proofs.Tests.{this-or-later}
 use Rattle.table.proofs.column.Statement.{statement}
 use Rattle.table.proofs.column.Tie as tie
-
--- A count is this one, or a later one.
-either : {X : Type 0} (k n : ℕ) → k ≤ n → (n ≡ k → X) → (suc k ≤ n → X) → X
-either k n low here later = elim (ℕ-discrete n k) [ yes e ↦ here e | no h ↦ later (omega arith) ]
 
 sub-result : tie.Need-sub-result
 sub-result c = search needs
@@ -39,19 +34,19 @@ returns : tie.Need-returns
 unfolding spelled twos column-in rows table-106-1
 returns c =
     let n : ℕ = c .before .before .args .n in
-    either 2 n (omega arith) (λ e. rw e) (λ h. either 3 n h (λ e. rw e) (λ h. rw (le-antisymm {n = n} {m = 4} (omega arith) h)))
+    this-or-later 2 n (omega arith) (λ e. rw e) (λ h. this-or-later 3 n h (λ e. rw e) (λ h. rw (le-antisymm {n = n} {m = 4} (omega arith) h)))
 
 returns-2 : tie.Need-returns-2
 unfolding spelled twos column-in rows table-106-1
 returns-2 c =
     let n : ℕ = c .before .before .before .args .n in
-    either 5 n (omega arith) (λ e. rw e) (λ h. either 6 n h (λ e. rw e) (λ h. either 7 n h (λ e. rw e) (λ h. rw (le-antisymm {n = n} {m = 8} (omega arith) h))))
+    this-or-later 5 n (omega arith) (λ e. rw e) (λ h. this-or-later 6 n h (λ e. rw e) (λ h. this-or-later 7 n h (λ e. rw e) (λ h. rw (le-antisymm {n = n} {m = 8} (omega arith) h))))
 
 returns-3 : tie.Need-returns-3
 unfolding spelled twos column-in rows table-106-1
 returns-3 c =
     let n : ℕ = c .before .before .before .args .n in
-    either 9 n (omega arith) (λ e. rw e) (λ h. rw (le-antisymm {n = n} {m = 10} (omega arith) h))
+    this-or-later 9 n (omega arith) (λ e. rw e) (λ h. rw (le-antisymm {n = n} {m = 10} (omega arith) h))
 
 pub column-spec : {M : Type 1} → statement M
 column-spec =

@@ -9,6 +9,7 @@ ghost use Rattle.rules.specs.Edition.{first-field, edition-head, column-size, c
 
 // 54 rows to a column, two bytes to a row.
 pub const ROWS: usize = 54;
+
 pub const COLUMN: usize = 108;
 
 // The bytes before the columns.

@@ -10,6 +10,7 @@ pub mod Editions
 pub mod StoreLists
 pub mod StoreWalk
 pub mod StoreNamed
+pub mod StoreAnswers
 pub mod Columned
 pub mod Twos
 pub mod DefaultEdition

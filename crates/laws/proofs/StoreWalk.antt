@@ -34,6 +34,7 @@ entry-byte s start i h =
     let size : ℕ = 2 + length-field rest in
     sym (getD-drop start s i 0) ∙ sym (getD-take size rest i 0 (omega (arith, length-take size rest)))
 
+-- So the number that two of its bytes spell is the one that is spelled there.
 pub entry-two :
     (s : List ℕ) (start at : ℕ) → at + 2 ≤ length (first-entry (drop start s)) →
     spelled 0 (part (start + at) 2 s) ≡ spelled 0 (part at 2 (first-entry (drop start s)))
@@ -65,19 +66,22 @@ cut-short bs h two =
     rw (take-all (2 + length-field bs) bs (omega arith)) (sym (not-accepted bs (λ a. omega arith)))
 
 module _ (least : ℕ) (bs : List ℕ) where
-  -- An end, an entry that is not accepted, one whose number is too low, and an edition: each is what the front says.
+  -- The front is an end, where the entries end.
   pub front-end : ends bs ≡ true → Front.End ≡ front-of least bs
   unfolding front-of
   front-end h = simp h
 
+  -- It is damaged, where the entry is not accepted,
   pub front-refused : ends bs ≡ false → accepted (first-entry bs) ≡ false → Front.Damaged ≡ front-of least bs
   unfolding front-of
   front-refused h a = simp (h, a)
 
+  -- or where its number is below the least that may follow.
   pub front-low : ends bs ≡ false → number-field (first-entry bs) < least → Front.Damaged ≡ front-of least bs
   unfolding front-of
   front-low h low = simp (h, lt-leb _ _ low, and-false)
 
+  -- Else it is an edition, with its size and its number.
   pub front-edition :
       ends bs ≡ false → 2 + length-field bs ≤ length bs → accepted (first-entry bs) ≡ true → least ≤ number-field (first-entry bs) →
       Front.Edition (2 + length-field bs) (number-field (first-entry bs)) ≡ front-of least bs
@@ -147,10 +151,11 @@ module _ (named : ℕ) (s : List ℕ) where
     unfolding store-walk
     kept-damaged h =
         let e = front-is-damaged (w .least) left h in
-        simp
-        (k .as-store,
-        entries-next room-left left (e .0),
-        rising-damaged room-left (w .least) (first-entry left) (entries-in room-left (after-first left)) (e .1))
+        simp (
+          k .as-store,
+          entries-next room-left left (e .0),
+          rising-damaged room-left (w .least) (first-entry left) (entries-in room-left (after-first left)) (e .1),
+        )
 
     -- At a ninth edition the buffer is no store.
     pub kept-ninth : (size number : ℕ) → Front.Edition size number ≡ front-of (w .least) left → w .count ≡ most-editions → Walk.Unsound ≡ store-walk named s
@@ -263,7 +268,7 @@ ends-known named s w h =
 -- ---- the edition that is named
 
 module _ (named : ℕ) (s : List ℕ) where
-  -- What the walk says of it is what is said of it: that the buffer is no store, that there is none of that number, or where it starts.
+  -- Where the walk finds no store, that is said.
   pub named-unsound : Walk.Unsound ≡ store-walk named s → Named.Unsound ≡ named-says named s
   unfolding named-says
   named-unsound h = simp (walked-unsound named s h)
@@ -272,10 +277,12 @@ module _ (named : ℕ) (s : List ℕ) where
     known-is : w .known ≡ stored named (editions s)
     known-is = ap (λ (v : Walked). v .known) (walked-store named s w h .1) ∙ all-known named none-passed (editions s)
 
+    -- Where it has not met the number that is named, there is no such edition.
     pub named-unknown : w .known ≡ false → Named.Unknown ≡ named-says named s
     unfolding named-says
     named-unknown k = simp (walked-store named s w h .0, sym known-is ∙ k)
 
+    -- Where it has, it knows the place at which that edition starts.
     pub named-starts : w .known ≡ true → Named.Starts (w .start) ≡ named-says named s
     unfolding named-says
     named-starts k =

@@ -116,7 +116,11 @@ pub fn evaluate(
 ) -> Evaluation
     ensures { λ r. ⌜ evaluation-said r ≡ evaluation-says (table-in (now (store .entry)) edition) (lot-of upper lower (now (readings .entry))) ⌝ }
 {
-    match with_column(store, named(store, edition), lots::lent(readings, upper, lower)) {
+    match with_column(
+        store,
+        named(store, edition),
+        lots::lent(readings, upper, lower),
+    ) {
         ColumnAnswer::Refused(refusal) => Evaluation::Refused(refusal),
         ColumnAnswer::Answers(c) => Evaluation::Answers(percentages(store, c, upper, lower)),
     }

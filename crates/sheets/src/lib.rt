@@ -53,7 +53,15 @@ pub fn check(
 ) -> CheckAnswer
     ensures { λ r. ⌜ check-said r ≡ check-says (table-in (now (store .entry)) edition) (lot-in vma) (lot-in voids) (lot-in density) (price .0) (quantity .0) sheet ⌝ }
 {
-    match ours(store, named(store, edition), vma, voids, density, price, quantity) {
+    match ours(
+        store,
+        named(store, edition),
+        vma,
+        voids,
+        density,
+        price,
+        quantity,
+    ) {
         SheetAnswer::Refused(refusal) => CheckAnswer::Refused(refusal),
         SheetAnswer::Answers(ours) => {
             if unfit(sheet) {

@@ -1,5 +1,5 @@
 -- `editions::column` meets its contract: the edition's first n is read where it stands, and the column lies within the bytes, so nothing wraps.
-use mathlib.Core.Path.{_≡_, sym, ap, _∙_}
+use mathlib.Core.Path.{_≡_, sym, _∙_}
 use mathlib.Core.Bool.{and-eq-true-iff}
 use mathlib.Core.List.{List}
 use Prim.Native.Nat.{ℕ, _+_, _≤_}

@@ -9,7 +9,7 @@ use Rattle.laws.proofs.StoreAnswers.{stored-within}
 use Rattle.editions.proofs.store.Statement.{statement}
 use Rattle.editions.proofs.store.Tie as tie
 
--- what is said, and what it leaves
+-- what is said where there is a place for it
 says : (c : tie.After-start) →
     let args = c .before .before .before .before .before .before .args in
     answers (c .start .given .0 .0) ≡ storing-says (args .store .now) (args .edition .now)

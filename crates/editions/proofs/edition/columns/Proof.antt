@@ -1,6 +1,6 @@
 -- `editions::edition::columns` meets its contract. The loop's invariant: the columns passed are well formed, so those that are left say what all say.
 -- The measure is what is left of the count.
-use mathlib.Core.Path.{_≡_, refl, sym, ap, _∙_}
+use mathlib.Core.Path.{_≡_, sym, ap, _∙_}
 use mathlib.Core.Bool.{Bool, true, false, _&&_}
 use mathlib.Core.List.{List}
 use Prim.Native.Nat.{ℕ, suc, _+_, _*_, _-_, _≤_, _<_}

@@ -81,7 +81,7 @@ returns-6 : tie.Need-returns-6
 returns-6 c =
     let left : tie.Else3 = c .before .before .before .before .before in
     let number : c .before .two2 .result ≡ number-field (first-entry (rest-of (left .before .before))) =
-      c .before .two2 .ensures ∙ ap number-field (entry (left .before .before)) in
+    c .before .two2 .ensures ∙ ap number-field (entry (left .before .before)) in
     ap₂ (λ (n m : ℕ). Front.Edition (2 + n) m) (left .before .before .two .ensures) number
     ∙ front-edition _ _ (going-on (left .before)) (omega arith) (taken (c .before .before)) (omega (arith, number))
 

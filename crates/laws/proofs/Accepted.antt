@@ -1,6 +1,6 @@
 -- What holds of readings and of a lot that are not refused.
 use mathlib.Core.Path.{_≡_, refl, sym, ap, _∙_}
-use mathlib.Core.Bool.{Bool, true, false, cond, not, and-eq-true-iff, _||_, _&&_}
+use mathlib.Core.Bool.{true, false, not, and-eq-true-iff, _||_}
 use mathlib.Core.List.{List, [], _∷_, _++_}
 use Prim.Native.Nat.{ℕ, _≤_}
 use borrow.Author.Tests.{leb-true, not-false}
@@ -18,9 +18,8 @@ use Rattle.rules.specs.declared.Refusal.{Refusal}
 use Rattle.rules.specs.declared.Percentages.{Percentages}
 use Rattle.rules.specs.Said.{Case, refused, answers, checked}
 use Rattle.rules.specs.Lot.{Lot, lot-of, most}
-use Rattle.rules.specs.Table.{Table, Found, no-column, a-column, has-store, has-column, entries}
+use Rattle.rules.specs.Table.{Table, Found, has-column, entries}
 use Rattle.rules.specs.Percent.{Rule, totals}
-use Rattle.rules.specs.Edition.{first-field, last-field, column-of, table-of}
 use Rattle.rules.specs.Refusals.{allowed, count-case, out-of-range, any-out, range-case, unlimited-case, crossed, crossed-case, store-case, edition-case, column-case}
 use Rattle.rules.specs.Meets.{readings-meet, limits-meet, lot-meets, counted-meets, column-meets, evaluation-meets}
 use Rattle.rules.specs.Answers.{totals-said}
@@ -30,6 +29,7 @@ use Rattle.laws.specs.Totalled.{totals-says, found-say, with-column-say,
 use Rattle.laws.specs.Bounds.{Accepted, Bounded}
 use Rattle.laws.specs.Moved.{Counted}
 use Rattle.laws.proofs.Ruled.{ruled-met, ruled-passed, none-met, none-of-either, ruled-answers, refused-alike, ruled-then, ruled-unrefused, totals-answered}
+use Rattle.laws.proofs.Editions.{edition-is-found}
 use Rattle.laws.proofs.Tests.{neither}
 use Rattle.laws.proofs.Bounds.{totals-bounded}
 
@@ -99,15 +99,6 @@ column-found found e =
     let edition = none-met (edition-case found) (column-case found ∷ []) e in
     not-false (has-column found) (none-met (column-case found) [] (edition .1) .0)
 
--- An edition is found in a store.
-edition-has-store : (e : List ℕ) (n : ℕ) → has-store (table-of e n) ≡ true
-unfolding table-of
-edition-has-store e n = by (column-of e n) (leb (first-field e) n && leb n (last-field e))
-  where
-    by : (column : List ℕ) (b : Bool) → has-store (cond b (a-column column) no-column) ≡ true
-    by column true = refl
-    by column false = refl
-
 -- To look for the store before all else and for a column after it is to have these cases first and last.
 pub totalled-with-column :
     (named : Named) (s : List ℕ) (meets : Lot → List Case) (lot : Lot) →
@@ -120,7 +111,7 @@ totalled-with-column Named.Unknown s meets lot =
     ∙ sym (ruled-passed _ _ _ refl)
 totalled-with-column (Named.Starts start) s meets lot =
     ruled-then (meets lot) _ (lot-totals lot) (found-say (table-at (Named.Starts start) s)) (λ r. refl) refl
-    ∙ sym (ruled-passed _ _ _ (ap not (edition-has-store _ (lot .n))))
+    ∙ sym (ruled-passed _ _ _ (ap not (edition-is-found _ (lot .n) .0)))
 
 -- A lot whose totals are answered where a percentage is asked for is not refused and has a column, and the totals are its own and in bounds, if its
 -- readings are as many as it says.

@@ -1,18 +1,17 @@
--- A column in bytes: where its entries stand; and the columns of Table 106-1 in bytes are such columns.
+-- A column in bytes: where its entries stand, by itself and where it starts at a place in longer bytes.
 use mathlib.Core.Path.{_≡_, refl, ap, _∙_, subst⁻¹}
 use mathlib.Core.List.{List, [], _∷_}
 use Prim.Native.Nat.{ℕ, zero, suc, _+_, _*_, _≤_, _<_}
 use native.Mathlib.Nat.{mul-suc, le-of-suc-le-suc, add-comm}
 use native.Mathlib.Numerals.{add-one}
 use native.Mathlib.Omega.{arith}
-use lib.ListN.{length, getD, take, drop}
-use lib.Seq.{drop-cons, drop-drop}
-use Rattle.rules.specs.Table.{last-row, table-106-1, entries, entry, column-in}
+use lib.ListN.{length, length-drop, getD, take, drop}
+use lib.Seq.{length-take-le, drop-cons, drop-drop}
+use Rattle.rules.specs.Table.{last-row, entry, column-in}
 use Rattle.rules.specs.Record.{spelled, twos, part}
 use Rattle.rules.specs.Edition.{column-size}
 use Rattle.laws.specs.Column.{Column}
 use Rattle.laws.specs.ColumnIn.{ColumnIn}
-use Rattle.laws.proofs.Table.{table-106-1-column}
 use Rattle.laws.proofs.Spelled.{part-two}
 
 twos-at : (n : ℕ) (bs : List ℕ) (k : ℕ) → k < n → getD (twos n bs) k 0 ≡ spelled 0 (part (2 * k) 2 bs)
@@ -80,6 +79,7 @@ column-in-part s at = column-of-part column-size (drop at s) 0 (omega arith)
 
 -- ---- Table 106-1
 
--- 108 bytes that hold Table 106-1's column for a count of 2 to 10 are a column in bytes.
-pub table-106-1-column-in : (bs : List ℕ) (n : ℕ) → 2 ≤ n → n ≤ 10 → length bs ≡ 108 → column-in bs ≡ entries (table-106-1 n) → ColumnIn bs
-table-106-1-column-in bs n low high size e = record { size = size; shape = subst⁻¹ Column e (table-106-1-column n low high) }
+-- So where a column stands in some bytes, those 108 bytes are a column in bytes.
+pub column-part : (s : List ℕ) (at : ℕ) → at + column-size ≤ length s → Column (column-in (drop at s)) → ColumnIn (take column-size (drop at s))
+column-part s at within shape =
+    record { size = length-take-le column-size (drop at s) (omega (arith, length-drop at s)); shape = subst⁻¹ Column (column-in-part s at) shape }

@@ -10,7 +10,7 @@ use lib.Ieee.Fits.{and-l, and-r}
 use lib.ListN.{length}
 use Rattle.rules.specs.Lot.{most}
 use Rattle.rules.specs.Record.{length-field, version-field}
-use Rattle.rules.specs.Table.{no-column, a-column, has-column, well-formed}
+use Rattle.rules.specs.Table.{no-column, a-column, has-store, has-edition, has-column, well-formed}
 use Rattle.rules.specs.Edition.{first-field, last-field, edition-head, column-size, columns, column-of, each, accepted, table-of}
 use Rattle.laws.specs.Column.{Column}
 use Rattle.laws.specs.StoreWalk.{EditionAccepted}
@@ -75,3 +75,12 @@ edition-has e n = by (column-of e n) (leb (first-field e) n && leb n (last-field
     by : (column : List ℕ) (b : Bool) → has-column (cond b (a-column column) no-column) ≡ b
     by column true = refl
     by column false = refl
+
+-- Whatever n is, an edition is an edition in a store.
+pub edition-is-found : (e : List ℕ) (n : ℕ) → (has-store (table-of e n) ≡ true) × (has-edition (table-of e n) ≡ true)
+unfolding table-of
+edition-is-found e n = by (column-of e n) (leb (first-field e) n && leb n (last-field e))
+  where
+    by : (column : List ℕ) (b : Bool) → (has-store (cond b (a-column column) no-column) ≡ true) × (has-edition (cond b (a-column column) no-column) ≡ true)
+    by column true = (refl, refl)
+    by column false = (refl, refl)

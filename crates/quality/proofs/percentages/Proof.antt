@@ -1,43 +1,48 @@
--- The column is Table 106-1's for the count, and the percentages are by it.
-use mathlib.Core.Path.{_≡_, ap, _∙_}
+-- The column is the part of the store that starts at its place, and the percentages are by it.
+use mathlib.Core.Path.{_≡_, ap, _∙_, subst⁻¹}
 use mathlib.Core.List.{List}
-use Prim.Native.Nat.{ℕ}
-use borrow.Author.Needs.{needs}
-use Rattle.rules.specs.declared.Totals.{Totals}
-use Rattle.rules.specs.declared.Limit.{Limit}
-use Rattle.rules.specs.Percent.{Rule}
+use Prim.Native.Nat.{ℕ, _+_, _-_}
+use native.Mathlib.Omega.{arith}
+use lib.ListN.{take, drop}
+use Rattle.rules.specs.Table.{column-in}
+use Rattle.rules.specs.Percent.{nearest}
+use Rattle.rules.specs.Edition.{column-size}
 use Rattle.rules.specs.Entries.{percentages-of}
-use Rattle.laws.proofs.Table.{table-106-1-counts}
-use Rattle.laws.proofs.ColumnIn.{table-106-1-column-in}
+use Rattle.laws.specs.ColumnIn.{ColumnIn}
+use Rattle.laws.proofs.ColumnIn.{column-in-part, column-part}
 use Rattle.quality.proofs.percentages.Statement.{statement}
 use Rattle.quality.proofs.percentages.Tie as tie
 
--- Equal columns give equal percentages.
-same-column : (rule : Rule) {xs ys : List ℕ} (a : Totals) (upper lower : Limit) → xs ≡ ys → percentages-of rule xs a upper lower ≡ percentages-of rule ys a upper lower
-same-column rule a upper lower e = ap (λ (column : List ℕ). percentages-of rule column a upper lower) e
+add-by-column : tie.Need-add-by-column
+add-by-column c = omega arith
 
-cast-column : tie.Need-cast-column
-cast-column c = search needs
+sub-by-column : tie.Need-sub-by-column
+sub-by-column c = omega arith
 
-column-requires : tie.Need-column-requires
-column-requires c κs = table-106-1-counts (c .before .args .a .n) .0 (c .before .pre .3)
+part-by-column-start : tie.Need-part-by-column-start
+part-by-column-start c = omega arith
 
-slice-aggregate-by-column : tie.Need-slice-aggregate-by-column
-slice-aggregate-by-column c = search needs
+part-by-column-end : tie.Need-part-by-column-end
+part-by-column-end c = omega arith
+
+-- Between its place and 108 bytes on there are 108 bytes.
+the-part : (s : List ℕ) (at : ℕ) → take ((at + 108) - at) (drop at s) ≡ take column-size (drop at s)
+the-part s at =
+    let size : (at + 108) - at ≡ column-size = omega arith in
+    ap (λ (k : ℕ). take k (drop at s)) size
 
 by-column-requires : tie.Need-by-column-requires
 by-column-requires c κs =
-    let start = c .before .before .before in
-    let few = start .pre .0 in
-    let n = table-106-1-counts (start .args .a .n) .0 (start .pre .3) in
-    (table-106-1-column-in (c .before .column .result) (start .args .a .n) (n .0) (n .1) (c .before .column .ok .1 .0 .1) (c .before .column .ensures), few, start .pre .1, start .pre .2)
+    let start = c .before .before in
+    (subst⁻¹ ColumnIn (the-part (start .args .store .now) (start .args .lot .column)) (column-part _ _ (start .pre .3) (start .pre .4)), start .pre .0, start .pre .1, start .pre .2)
 
 returns : tie.Need-returns
 returns c =
-    let args = c .before .before .before .before .args in
-    c .by-column .ensures ∙ same-column _ (args .a) (args .upper) (args .lower) (c .before .before .column .ensures)
+    let args = c .before .before .before .args in
+    let same = ap column-in (the-part (args .store .now) (args .lot .column)) ∙ column-in-part (args .store .now) (args .lot .column) in
+    c .by-column .ensures ∙ ap (λ (column : List ℕ). percentages-of nearest column (args .lot .totals) (args .upper) (args .lower)) same
 
 pub percentages-spec : {M : Type 1} → statement M
 percentages-spec =
     tie.close
-    (tie.spec cast-column column-requires slice-aggregate-by-column by-column-requires returns)
+    (tie.spec add-by-column sub-by-column part-by-column-start part-by-column-end by-column-requires returns)

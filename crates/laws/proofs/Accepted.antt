@@ -113,14 +113,13 @@ totalled-with-column (Named.Starts start) s meets lot =
     ruled-then (meets lot) _ (lot-totals lot) (found-say (table-at (Named.Starts start) s)) (λ r. refl) refl
     ∙ sym (ruled-passed _ _ _ (ap not (edition-is-found _ (lot .n) .0)))
 
--- A lot whose totals are answered where a percentage is asked for is not refused and has a column, and the totals are its own and in bounds, if its
--- readings are as many as it says.
+-- A lot whose totals are answered where a percentage is asked for is not refused, and the totals are its own and in bounds, if its readings are as many
+-- as it says.
 pub record LotTotalled (table : Table) (lot : Lot) (a : Totals) : Type 0 where
   pub unrefused : checked (by-table table lot) ≡ answers tt
   pub same : lot-totals lot ≡ a
   pub accepted : LotAccepted lot
   pub bounded : Bounded a
-  pub column : has-column (table (a .n)) ≡ true
 
 pub lot-totalled :
     (table : Table) (lot : Lot) {t : ColumnAnswer} {c : Columned} → Counted lot →
@@ -138,7 +137,6 @@ lot-totalled table lot counted e h =
       bounded =
           totals-bounded {xs = lot .readings} (record { least = rw size (ok .least); few = rw size (ok .few); all-in-range = ok .all-in-range })
           (sym (r .1) ∙ ap (λ (m : ℕ). totals m (lot .readings)) (sym size));
-      column = ap (λ (b : Totals). has-column (table (b .n))) (sym (r .1)) ∙ column-found (table (lot .n)) (none .1);
     }
 
 -- The readings of an accepted lot that is a lent list with two limits are accepted.

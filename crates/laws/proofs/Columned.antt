@@ -50,7 +50,7 @@ module _ (s : List ℕ) (k : ℕ) {named : Named} (e : named ≡ named-says k s)
   pub found-in-store : NamedIn s named
   found-in-store = subst⁻¹ (NamedIn s) e (named-in k s)
 
-  found-table : table-at named s ≡ table-in s k
+  pub found-table : table-at named s ≡ table-in s k
   found-table = ap (λ (d : Named). table-at d s) e ∙ table-named k s
 
   -- a lot meets 11 by that store before all else, and 13 and 10 after it,

@@ -17,7 +17,7 @@ use Rattle.rules.specs.declared.Row.{Row}
 use Rattle.rules.specs.declared.Refusal.{Refusal}
 use Rattle.rules.specs.Said.{Case, refused, answers, ruled}
 use Rattle.rules.specs.Lot.{Lot, most, lot-of}
-use Rattle.rules.specs.Table.{Table, has-column, entries}
+use Rattle.rules.specs.Table.{Table, entries}
 use Rattle.rules.specs.Percent.{nearest, totals, spread, upper-side, lower-side}
 use Rattle.rules.specs.Deviation.{deviation}
 use Rattle.rules.specs.Record.{fours}
@@ -29,7 +29,7 @@ use Rattle.laws.specs.Totalled.{columned-said, lot-totals, totalled, by-
 use Rattle.laws.specs.Column.{Column}
 use Rattle.laws.specs.Bounds.{Bounded}
 use Rattle.laws.proofs.Ruled.{ruled-passed, ruled-under, ruled-answers, refused-alike, ruled-unrefused, none-met, none-of-either}
-use Rattle.laws.proofs.Accepted.{LotAccepted, lot-accepted, lent-readings, column-found}
+use Rattle.laws.proofs.Accepted.{LotAccepted, lot-accepted, lent-readings}
 use Rattle.laws.proofs.Bounds.{totals-bounded}
 use Rattle.laws.proofs.Between.{between-magnitude}
 use Rattle.laws.proofs.Nearest.{nearest-row-rule}
@@ -63,7 +63,6 @@ pub record LentAccepted (table : Table) (upper lower : Limit) (bs : List ℕ) (a
   pub bounded : Bounded a
   pub upper-in-range : out-of-range upper ≡ false
   pub lower-in-range : out-of-range lower ≡ false
-  pub column : has-column (table (a .n)) ≡ true
   pub row : row-says table upper lower bs ≡ answers (row-of-totals table a upper lower)
 
 module _ (upper lower : Limit) (bs : List ℕ) where
@@ -106,7 +105,6 @@ module _ (upper lower : Limit) (bs : List ℕ) where
           bounded = totals-bounded (lent-readings accepted) (sym (answered .1) ∙ ap (λ (m : ℕ). totals m (fours n bs)) (sym (length-fours n bs)));
           upper-in-range = accepted .upper-in-range;
           lower-in-range = accepted .lower-in-range;
-          column = ap (λ (b : Totals). has-column (table (b .n))) (sym (answered .1)) ∙ column-found (table (lot .n)) (either .1);
           row = ruled-unrefused (row-by-table table bs lot) _ (answered .0) ∙ ap (λ (b : Totals). answers (row-of-totals table b upper lower)) (answered .1);
         }
 

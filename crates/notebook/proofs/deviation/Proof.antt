@@ -2,13 +2,14 @@
 use mathlib.Core.Path.{sym, ap, _∙_}
 use borrow.Author.Needs.{needs}
 use lib.Ieee.{ofBits}
+use Rattle.rules.specs.Store.{table-in}
 use Rattle.rules.specs.Notebook.{row-of, deviation-asked}
 use Rattle.laws.proofs.Lent.{LentAccepted, lent-accepted, lent-refused}
 use Rattle.notebook.proofs.deviation.Statement.{statement}
 use Rattle.notebook.proofs.deviation.Tie as tie
 
-accepted : (c : tie.After-a) → LentAccepted (c .before .before .before .before .args .upper) (c .before .before .before .before .args .lower) (c .before .before .before .before .args .bytes .now) (c .a .given .0 .0)
-accepted c = lent-accepted _ _ _ (c .before .before .lent .ensures) (c .a .given .1)
+accepted : (d : tie.After-c) → let args = d .before .before .before .before .before .args in LentAccepted (table-in (args .store .now) (args .edition)) (args .upper) (args .lower) (args .bytes .now) (d .c .given .0 .0 .totals)
+accepted d = lent-accepted _ _ _ _ (d .before .before .lent .ensures .0) (d .c .given .1)
 
 lent-requires : tie.Need-lent-requires
 lent-requires c κs = search needs
@@ -16,19 +17,19 @@ lent-requires c κs = search needs
 enum-told : tie.Need-enum-told
 enum-told c = search needs
 
-enum-known-a : tie.Need-enum-known-a
-enum-known-a c = search needs
+enum-known-c : tie.Need-enum-known-c
+enum-known-c c = search needs
 
 deviation-of-requires : tie.Need-deviation-of-requires
 deviation-of-requires c κs = accepted (c .before) .bounded
 
 returns : tie.Need-returns
 unfolding ofBits
-returns c = sym (ap deviation-asked (lent-refused _ _ _ (c .before .before .lent .ensures) (c .enum-told .given .1)))
+returns c = sym (ap deviation-asked (lent-refused _ _ _ _ (c .before .before .lent .ensures .0) (c .enum-told .given .1)))
 
 returns-2 : tie.Need-returns-2
 unfolding row-of
 returns-2 c = c .deviation-of .ensures ∙ sym (ap deviation-asked (accepted (c .before .before) .row))
 
 pub deviation-spec : {M : Type 1} → statement M
-deviation-spec = tie.close (tie.spec lent-requires enum-told enum-known-a deviation-of-requires returns returns-2)
+deviation-spec = tie.close (tie.spec lent-requires enum-told enum-known-c deviation-of-requires returns returns-2)

@@ -1,55 +1,31 @@
--- Bytes of a fitting size spell the numbers that the walk goes over; any other size is refusal 4.
-use mathlib.Core.Path.{_≡_, sym, ap, _∙_}
-use mathlib.Core.Bool.{true, not}
+-- The store is looked at before the lot, and the column after it.
+use mathlib.Core.Path.{subst}
 use mathlib.Core.List.{List}
-use Prim.Native.Nat.{ℕ, _/_}
-use native.Mathlib.Omega.{arith}
+use Prim.Native.Nat.{ℕ}
 use borrow.Author.Needs.{needs}
-use lib.ListN.{length}
-use Rattle.rules.specs.Record.{fours}
-use Rattle.rules.specs.Refusals.{size-fits}
+use Rattle.rules.specs.declared.store.Named.{Named}
 use Rattle.rules.specs.Meets.{bytes-meet, row-meets}
-use Rattle.laws.specs.Totalled.{with-limits-say, with-column-say, totalled}
-use Rattle.laws.proofs.Ruled.{ruled-met}
-use Rattle.laws.proofs.Accepted.{totalled-with-column}
-use Rattle.laws.proofs.Lots.{walked-with-limits}
-use Rattle.laws.proofs.Lent.{fitting-count, fitting-totals}
+use Rattle.laws.specs.StoreWalk.{ColumnPlaced}
+use Rattle.laws.proofs.Columned.{found-in-store, columned-is-totalled}
 use Rattle.notebook.proofs.lent.Statement.{statement}
 use Rattle.notebook.proofs.lent.Tie as tie
 
-fitting : (c : tie.Then1) → size-fits (length (c .before .before .before .args .bytes .now)) ≡ true
-fitting c = sym (c .before .size-fits .ensures) ∙ c .if1 .taken
+named-requires : tie.Need-named-requires
+named-requires c κs = search needs
 
-size-fits-requires : tie.Need-size-fits-requires
-size-fits-requires c κs = search needs
-
-walk-requires : tie.Need-walk-requires
-walk-requires c κs = (fitting-count (length (c .before .before .before .args .bytes .now)) (fitting c), omega arith)
-
-met-requires : tie.Need-met-requires
-met-requires c κs = search needs
+totals-requires : tie.Need-totals-requires
+totals-requires c κs = search needs
 
 with-column-requires : tie.Need-with-column-requires
-with-column-requires c κs = search needs
+with-column-requires c κs = found-in-store _ _ (c .before .named .ensures)
 
 returns : tie.Need-returns
 unfolding row-meets
 returns c =
-    let met = c .before in
-    let then = met .before .before in
-    let args = then .before .before .before .args in
-    let bs : List ℕ = args .bytes .now in
-    c .with-column .ensures
-    ∙ ap with-column-say
-    (met .met .ensures
-    ∙ ap (with-limits-say (args .upper) (args .lower)) (met .before .walk .ensures .0)
-    ∙ walked-with-limits (args .upper) (args .lower) (fours (length bs / 4) bs)
-    ∙ sym (fitting-totals (args .upper) (args .lower) bs (fitting then)))
-    ∙ totalled-with-column (bytes-meet bs) _
-
-returns-2 : tie.Need-returns-2
-unfolding totalled row-meets
-returns-2 c = sym (ruled-met _ _ _ (ap not (sym (c .before .size-fits .ensures) ∙ c .if1 .left)))
+    let args = c .before .before .before .before .before .args in
+    let named = c .before .before .named .ensures in
+    (columned-is-totalled _ _ named (bytes-meet (args .bytes .now)) _ (c .before .totals .ensures) (c .with-column .ensures .0),
+      subst (λ (edition : Named). ColumnPlaced (args .store .now) edition (c .with-column .result)) named (c .with-column .ensures .1))
 
 pub lent-spec : {M : Type 1} → statement M
-lent-spec = tie.close (tie.spec size-fits-requires walk-requires met-requires with-column-requires returns returns-2)
+lent-spec = tie.close (tie.spec named-requires totals-requires with-column-requires returns)

@@ -10,16 +10,14 @@ use mir.Facts.{toZ-ofZ}
 use Rattle.integers.proofs.Magnitude.{fits-of}
 use Rattle.rules.specs.declared.Percentages.{Percentages}
 use Rattle.rules.specs.Notebook.{over}
-use Rattle.laws.proofs.Table.{table-106-1-column, table-106-1-counts}
 use Rattle.laws.proofs.Lent.{pwl-small}
 use Rattle.notebook.proofs.pwl_of.Statement.{statement}
 use Rattle.notebook.proofs.pwl_of.Tie as tie
 
 small : (c : tie.After-percentages) → natAbs (c .percentages .result .pwl .0) ≤ 30000
 small c =
-    let a = c .before .args .a in
-    let n = table-106-1-counts (a .n) .0 (c .before .pre .3) in
-    rw (c .percentages .ensures) (pwl-small a (table-106-1-column (a .n) (n .0) (n .1)) (c .before .args .upper) (c .before .args .lower))
+    let start = c .before .before in
+    rw (c .percentages .ensures) (pwl-small (start .args .lot .totals) (start .pre .4) (start .args .upper) (start .args .lower))
 
 percentages-requires : tie.Need-percentages-requires
 percentages-requires c κs = search needs

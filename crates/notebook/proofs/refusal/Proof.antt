@@ -21,10 +21,10 @@ enum-told c = search needs
 returns : tie.Need-returns
 returns c =
     c .refused .ensures
-    ∙ sym (ap host-refusal (lent-refused _ _ _ (c .before .before .before .before .lent .ensures) (c .before .before .refusal .given .1)))
+    ∙ sym (ap host-refusal (lent-refused _ _ _ _ (c .before .before .before .before .lent .ensures .0) (c .before .before .refusal .given .1)))
 
 returns-2 : tie.Need-returns-2
-returns-2 c = sym (ap host-refusal (lent-accepted _ _ _ (c .before .before .lent .ensures) (c .enum-told .given .1) .row))
+returns-2 c = sym (ap host-refusal (lent-accepted _ _ _ _ (c .before .before .lent .ensures .0) (c .enum-told .given .1) .row))
 
 pub refusal-spec : {M : Type 1} → statement M
 refusal-spec = tie.close (tie.spec lent-requires enum-known-refusal refused-requires enum-told returns returns-2)

@@ -6,15 +6,21 @@ use lib.IntN.{ℤ}
 use Rattle.rules.specs.declared.Finding.{Finding}
 use Rattle.rules.specs.Said.{answers}
 use Rattle.rules.specs.Lot.{lot-in}
+use Rattle.rules.specs.Table.{Table}
+use Rattle.rules.specs.Store.{table-in}
 use Rattle.rules.specs.Sheet.{differing, differences, first-of}
 use Rattle.rules.specs.Answers.{sheet-said}
 use Rattle.rules.specs.Check.{ours-says}
+use Rattle.laws.proofs.Columned.{found-in-store, found-table}
 use Rattle.laws.proofs.OurSheet.{ours-refused, unfit-is-refused, sheet-is-found}
 use Rattle.sheets.proofs.check.Statement.{statement}
 use Rattle.sheets.proofs.check.Tie as tie
 
+named-requires : tie.Need-named-requires
+named-requires c κs = search needs
+
 ours-requires : tie.Need-ours-requires
-ours-requires c κs = search needs
+ours-requires c κs = found-in-store _ _ (c .named .ensures)
 
 enum-known-refusal : tie.Need-enum-known-refusal
 enum-known-refusal c = search needs
@@ -34,18 +40,28 @@ numbers-requires-2 c κs = search needs
 first-of-requires : tie.Need-first-of-requires
 first-of-requires c κs = search needs
 
--- What is said of our own sheet, where it is answered.
+-- What is said of our own sheet, by the edition that is named.
+by-edition :
+    (d : tie.After-ours) →
+    let args = d .before .before .before .args in
+    ours-says (table-in (args .store .now) (args .edition)) (lot-in (args .vma)) (lot-in (args .voids)) (lot-in (args .density)) (args .price .0) (args .quantity .0) ≡ sheet-said (d .ours .result)
+by-edition d =
+    let args = d .before .before .before .args in
+    ap (λ (table : Table). ours-says table (lot-in (args .vma)) (lot-in (args .voids)) (lot-in (args .density)) (args .price .0) (args .quantity .0)) (sym (found-table _ _ (d .before .named .ensures)))
+    ∙ sym (d .ours .ensures)
+
+-- What it is, where it is answered.
 ours-said :
     (d : tie.After-ours2) →
-    let args = d .before .before .before .args in
-    ours-says (lot-in (args .vma)) (lot-in (args .voids)) (lot-in (args .density)) (args .price .0) (args .quantity .0) ≡ answers (d .ours2 .given .0 .0)
-ours-said d = sym (d .before .before .ours .ensures) ∙ ap sheet-said (d .ours2 .given .1)
+    let args = d .before .before .before .before .before .args in
+    ours-says (table-in (args .store .now) (args .edition)) (lot-in (args .vma)) (lot-in (args .voids)) (lot-in (args .density)) (args .price .0) (args .quantity .0) ≡ answers (d .ours2 .given .0 .0)
+ours-said d = by-edition (d .before .before) ∙ ap sheet-said (d .ours2 .given .1)
 
 returns : tie.Need-returns
-returns c = sym (ours-refused _ _ _ _ _ _ (sym (c .before .before .before .ours .ensures) ∙ ap sheet-said (c .before .refusal .given .1)))
+returns c = sym (ours-refused _ _ _ _ _ _ _ (by-edition (c .before .before .before) ∙ ap sheet-said (c .before .refusal .given .1)))
 
 returns-2 : tie.Need-returns-2
-returns-2 c = sym (unfit-is-refused _ _ _ _ _ _ (ours-said (c .before .before .before)) (sym (c .before .unfit .ensures) ∙ c .if1 .taken))
+returns-2 c = sym (unfit-is-refused _ _ _ _ _ _ _ (ours-said (c .before .before .before)) (sym (c .before .unfit .ensures) ∙ c .if1 .taken))
 
 returns-3 : tie.Need-returns-3
 unfolding differences
@@ -54,12 +70,13 @@ returns-3 c =
     let fit = sheets .before .before in
     let found = c .first-of .ensures ∙ ap₂ (λ (xs ys : List ℤ). first-of (differing 0 xs ys)) (sheets .before .numbers .ensures) (sheets .numbers2 .ensures) in
     ap (λ (finding : Finding). answers finding) found
-    ∙ sym (sheet-is-found _ _ _ _ _ _ (ours-said (fit .before .before .before)) (sym (fit .before .unfit .ensures) ∙ fit .if1 .left))
+    ∙ sym (sheet-is-found _ _ _ _ _ _ _ (ours-said (fit .before .before .before)) (sym (fit .before .unfit .ensures) ∙ fit .if1 .left))
 
 pub check-spec : {M : Type 1} → statement M
 check-spec =
     tie.close
     (tie.spec
+    named-requires
     ours-requires
     enum-known-refusal
     enum-known-ours

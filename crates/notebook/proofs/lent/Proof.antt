@@ -23,9 +23,10 @@ returns : tie.Need-returns
 unfolding row-meets
 returns c =
     let args = c .before .before .before .before .before .args in
-    let named = c .before .before .named .ensures in
-    (columned-is-totalled _ _ named (bytes-meet (args .bytes .now)) _ (c .before .totals .ensures) (c .with-column .ensures .0),
-      subst (λ (edition : Named). ColumnPlaced (args .store .now) edition (c .with-column .result)) named (c .with-column .ensures .1))
+    let named = c .before .before .named .ensures in (
+      columned-is-totalled _ _ named (bytes-meet (args .bytes .now)) _ (c .before .totals .ensures) (c .with-column .ensures .0),
+      subst (λ (edition : Named). ColumnPlaced (args .store .now) edition (c .with-column .result)) named (c .with-column .ensures .1),
+    )
 
 pub lent-spec : {M : Type 1} → statement M
 lent-spec = tie.close (tie.spec named-requires totals-requires with-column-requires returns)

@@ -90,10 +90,13 @@ returns-5 c =
     let s : List ℕ = some .before .before .before .args .store .now in
     let found = sym (asked .has-column .ensures) ∙ c .before .before .if1 .taken in
     let placed = named-columns s (some .edition .given .0 .0) (here some) _ found in
-    let with-edition = edition-is-found (first-entry (drop (some .edition .given .0 .0) s)) _ .1 in
-    (sym (known s (some .edition .given .1) (totals .said3 .given .1) ∙ ruled-passed _ _ _ (ap not with-edition) ∙ ruled-passed _ _ _ (ap not found) ∙ ruled-none _),
-      (omega (arith, placed .0, c .column .ensures),
-        ap (λ (d : Named). table-at d s (totals .said3 .given .0 .0 .n)) (some .edition .given .1) ∙ placed .1 ∙ ap (λ (place : ℕ). a-column (column-in (drop place s))) (sym (c .column .ensures))))
+    let with-edition = edition-is-found (first-entry (drop (some .edition .given .0 .0) s)) _ .1 in (
+      sym (known s (some .edition .given .1) (totals .said3 .given .1) ∙ ruled-passed _ _ _ (ap not with-edition) ∙ ruled-passed _ _ _ (ap not found) ∙ ruled-none _),
+      (
+        omega (arith, placed .0, c .column .ensures),
+        ap (λ (d : Named). table-at d s (totals .said3 .given .0 .0 .n)) (some .edition .given .1) ∙ placed .1 ∙ ap (λ (place : ℕ). a-column (column-in (drop place s))) (sym (c .column .ensures)),
+      ),
+    )
 
 returns-6 : tie.Need-returns-6
 returns-6 c =

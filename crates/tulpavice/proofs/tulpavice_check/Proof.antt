@@ -3,6 +3,7 @@ use mathlib.Core.Path.{ap, _∙_}
 use borrow.Author.Needs.{needs}
 use mir.Facts.{toZ-ofZ}
 use Rattle.rules.specs.Lot.{lot-in}
+use Rattle.rules.specs.Store.{table-in}
 use Rattle.rules.specs.Check.{check-says}
 use Rattle.rules.specs.HostSheet.{host-checked}
 use Rattle.tulpavice.proofs.tulpavice_check.Statement.{statement}
@@ -32,14 +33,14 @@ returns c =
     let density = sheet .before in
     let voids = density .before in
     let vma = voids .before in
-    let start = vma .before in
+    let start = vma .before .before in
     let price = start .fits .price in
     let quantity = start .fits .quantity in
     let said = simp toZ-ofZ at (c .before .check .ensures) in
     c .checked .ensures
     ∙ ap host-checked
     (said
-    ∙ λ i. check-says (lot-in (vma .held-lot .ensures i)) (lot-in (voids .held-lot2 .ensures i)) (lot-in (density .held-lot3 .ensures i)) (start .args .price) (start .args .quantity) (sheet .held-sheet .ensures i))
+    ∙ λ i. check-says (table-in (start .args .store .now) (start .args .edition)) (lot-in (vma .held-lot .ensures i)) (lot-in (voids .held-lot2 .ensures i)) (lot-in (density .held-lot3 .ensures i)) (start .args .price) (start .args .quantity) (sheet .held-sheet .ensures i))
 
 pub tulpavice-check-spec : {M : Type 1} → statement M
 tulpavice-check-spec =

@@ -3,6 +3,7 @@ use mathlib.Core.Path.{_≡_, ap, _∙_}
 use borrow.Author.Needs.{needs}
 use mir.Facts.{toZ-ofZ}
 use Rattle.rules.specs.Lot.{lot-of}
+use Rattle.rules.specs.Store.{table-in}
 use Rattle.rules.specs.Notebook.{lent-limit}
 use Rattle.rules.specs.Entries.{evaluation-says}
 use Rattle.rules.specs.Host.{host-percentages}
@@ -23,12 +24,12 @@ percentages-requires c κs = search needs
 
 returns : tie.Need-returns
 returns c =
-    let start = c .before .before .before .before in
+    let start = c .before .before .before .before .before in
     let f = start .fits .upper in
     let g = start .fits .lower in
     let upper : c .before .before .before .limit .result ≡ lent-limit (start .args .upper) (start .args .upper-present) = simp toZ-ofZ at (c .before .before .before .limit .ensures) in
     let lower : c .before .before .limit2 .result ≡ lent-limit (start .args .lower) (start .args .lower-present) = simp toZ-ofZ at (c .before .before .limit2 .ensures) in
-    c .percentages .ensures ∙ ap host-percentages (c .before .evaluate .ensures ∙ (λ i. evaluation-says (lot-of (upper i) (lower i) (start .args .readings .now))))
+    c .percentages .ensures ∙ ap host-percentages (c .before .evaluate .ensures ∙ (λ i. evaluation-says (table-in (start .args .store .now) (start .args .edition)) (lot-of (upper i) (lower i) (start .args .readings .now))))
 
 pub tulpavice-evaluate-spec : {M : Type 1} → statement M
 tulpavice-evaluate-spec =

@@ -2,6 +2,7 @@
 use mathlib.Core.Path.{_≡_, ap, _∙_}
 use borrow.Author.Needs.{needs}
 use mir.Facts.{toZ-ofZ}
+use Rattle.rules.specs.Store.{table-in}
 use Rattle.rules.specs.Notebook.{lent-limit}
 use Rattle.rules.specs.Entries.{row-says}
 use Rattle.rules.specs.Host.{host-row}
@@ -22,12 +23,12 @@ row-requires-2 c κs = search needs
 
 returns : tie.Need-returns
 returns c =
-    let start = c .before .before .before .before .before in
+    let start = c .before .before .before .before .before .before in
     let f = start .fits .upper in
     let g = start .fits .lower in
     let upper : c .before .before .before .limit .result ≡ lent-limit (start .args .upper) (start .args .upper-present) = simp toZ-ofZ at (c .before .before .before .limit .ensures) in
     let lower : c .before .before .limit2 .result ≡ lent-limit (start .args .lower) (start .args .lower-present) = simp toZ-ofZ at (c .before .before .limit2 .ensures) in
-    c .row2 .ensures ∙ ap host-row (c .before .row .ensures ∙ (λ i. row-says (upper i) (lower i) (start .args .readings .now)))
+    c .row2 .ensures ∙ ap host-row (c .before .row .ensures ∙ (λ i. row-says (table-in (start .args .store .now) (start .args .edition)) (upper i) (lower i) (start .args .readings .now)))
 
 pub tulpavice-row-spec : {M : Type 1} → statement M
 tulpavice-row-spec =

@@ -2,6 +2,7 @@
 use mathlib.Core.Path.{_≡_, _∙_}
 use borrow.Author.Needs.{needs}
 use mir.Facts.{toZ-ofZ}
+use Rattle.rules.specs.Store.{table-in}
 use Rattle.rules.specs.Notebook.{lent-limit, mean-asked}
 use Rattle.rules.specs.Entries.{row-says}
 use Rattle.tulpavice.proofs.tulpavice_row_mean.Statement.{statement}
@@ -18,12 +19,12 @@ mean-requires c κs = search needs
 
 returns : tie.Need-returns
 returns c =
-    let start = c .before .before .before .before in
+    let start = c .before .before .before .before .before in
     let f = start .fits .upper in
     let g = start .fits .lower in
     let upper : c .before .before .limit .result ≡ lent-limit (start .args .upper) (start .args .upper-present) = simp toZ-ofZ at (c .before .before .limit .ensures) in
     let lower : c .before .limit2 .result ≡ lent-limit (start .args .lower) (start .args .lower-present) = simp toZ-ofZ at (c .before .limit2 .ensures) in
-    c .mean .ensures ∙ (λ i. mean-asked (row-says (upper i) (lower i) (start .args .readings .now)))
+    c .mean .ensures ∙ (λ i. mean-asked (row-says (table-in (start .args .store .now) (start .args .edition)) (upper i) (lower i) (start .args .readings .now)))
 
 pub tulpavice-row-mean-spec : {M : Type 1} → statement M
 tulpavice-row-mean-spec =

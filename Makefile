@@ -87,7 +87,7 @@ $(HOST)/%: $(HOST)/%.o $(LIBRARY).a
 	@$(LINK) $(filter %.o,$^) $(filter %.a,$^) > $@.log 2>&1 || { cat $@.log; exit 1; }
 
 ifeq ($(HOSTS),hosts)
-$(HOST)/notebook: $(HOST)/words.o $(HOST)/sheet.o
+$(HOST)/notebook: $(HOST)/words.o $(HOST)/store.o $(HOST)/sheet.o
 endif
 
 # Plain C has the table's figures from the data file.

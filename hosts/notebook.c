@@ -4,6 +4,7 @@
    words.h says how a file is read and what a lot is. A line that is not a lot, or whose lot the library refuses, is
    bad: it is told on standard error, and the next is read. */
 #include "sheet.h"
+#include "store.h"
 #include "tulpavice.h"
 #include "words.h"
 
@@ -79,7 +80,7 @@ struct row {
     double mean, deviation, pwl;
 };
 
-static struct row row_of(const struct lot *l)
+static struct row row_of(const struct store *s, const struct lot *l)
 {
     uint8_t bytes[4 * PLACES];
     size_t size = 0;
@@ -87,10 +88,14 @@ static struct row row_of(const struct lot *l)
     for (size_t i = 0; i < l->count; i++)
         for (int shift = 24; shift >= 0; shift -= 8)
             bytes[size++] = (uint8_t)((uint32_t)l->readings[i] >> shift);
-    row.refusal = tulpavice_row_refusal(bytes, size, l->upper, l->upper_present, l->lower, l->lower_present).number;
-    row.mean = tulpavice_row_mean(bytes, size, l->upper, l->upper_present, l->lower, l->lower_present);
-    row.deviation = tulpavice_row_deviation(bytes, size, l->upper, l->upper_present, l->lower, l->lower_present);
-    row.pwl = tulpavice_row_pwl(bytes, size, l->upper, l->upper_present, l->lower, l->lower_present);
+    row.refusal = tulpavice_row_refusal(s->bytes, s->size, s->edition, bytes, size, l->upper, l->upper_present, l->lower,
+                                        l->lower_present).number;
+    row.mean = tulpavice_row_mean(s->bytes, s->size, s->edition, bytes, size, l->upper, l->upper_present, l->lower,
+                                  l->lower_present);
+    row.deviation = tulpavice_row_deviation(s->bytes, s->size, s->edition, bytes, size, l->upper, l->upper_present,
+                                            l->lower, l->lower_present);
+    row.pwl = tulpavice_row_pwl(s->bytes, s->size, s->edition, bytes, size, l->upper, l->upper_present, l->lower,
+                                l->lower_present);
     return row;
 }
 
@@ -114,11 +119,11 @@ static void show_readings(const struct lot *lots)
     printf("\n\n");
 }
 
-static void show_rows(const struct lot *lots, const uint32_t *rejected)
+static void show_rows(const struct store *store, const struct lot *lots, const uint32_t *rejected)
 {
     printf("         Limits from    Lower   Upper     Mean  Deviation    PWL  Verdict\n");
     for (int c = 0; c < CHARACTERISTICS; c++) {
-        struct row row = row_of(&lots[c]);
+        struct row row = row_of(store, &lots[c]);
         printf("%-9s%-13s%7.2f%8.2f%9.3f%11.3f%7.2f  %s\n", NAMES[c], SOURCES[c], lots[c].lower / 1000.0,
                lots[c].upper / 1000.0, row.mean, row.deviation, row.pwl, verdict(rejected[c]));
     }
@@ -142,6 +147,7 @@ static void show_payment(const struct tulpavice_payment *paid)
    these numbers is refused. */
 static void show_example(void)
 {
+    struct store s = table_106_1();
     struct tulpavice_mixture_limits m = tulpavice_mixture(OTHER_MIXTURES, 13000, 4000);
     const struct lot lots[CHARACTERISTICS] = {
         {m.vma_lower, 1, m.vma_upper, 1, SUBLOTS,
@@ -153,12 +159,13 @@ static void show_example(void)
     };
     int64_t pwl[CHARACTERISTICS];
     for (int c = 0; c < CHARACTERISTICS; c++)
-        pwl[c] = tulpavice_evaluate(lots[c].readings, SUBLOTS, lots[c].upper, 1, lots[c].lower, 1).pwl;
+        pwl[c] = tulpavice_evaluate(s.bytes, s.size, s.edition, lots[c].readings, SUBLOTS, lots[c].upper, 1,
+                                    lots[c].lower, 1).pwl;
     struct tulpavice_payment paid = tulpavice_pay(pwl[0], pwl[1], pwl[2], CENTS_A_TON, HUNDREDTHS_OF_A_TON);
     const uint32_t rejected[CHARACTERISTICS] = {paid.vma, paid.voids, paid.density};
     printf("Percent within limits (PWL): Illinois DOT's worked example, all in percent.\n\n");
     show_readings(lots);
-    show_rows(lots, rejected);
+    show_rows(&s, lots, rejected);
     show_payment(&paid);
     printf("\nThe example's own paper (document 000) has a table of whole percents: by it the\n"
            "PWLs are 98, 92 and 93, the composite is 1.001, and 10,000 tons at $35.00 are\n"
@@ -173,13 +180,13 @@ static void show_row(unsigned long line, const struct row *row, int tabs)
            row->deviation, row->pwl);
 }
 
-static enum status answer_line(struct input *in, int tabs)
+static enum status answer_line(struct input *in, const struct store *store, int tabs)
 {
     struct lot_line line = {0};
     enum status status = read_lot(in, &line);
     if (status != GOOD)
         return status;
-    struct row row = row_of(&line.lot);
+    struct row row = row_of(store, &line.lot);
     if (!row.refusal) {
         show_row(in->line, &row, tabs);
         return GOOD;
@@ -189,20 +196,20 @@ static enum status answer_line(struct input *in, int tabs)
     return BAD;
 }
 
-static enum status answer_lots(FILE *file, int tabs)
+static enum status answer_lots(FILE *file, const struct store *store, int tabs)
 {
     struct input in = input_of(file);
     enum status status = GOOD;
     if (tabs)
         printf("line\tmean\tdeviation\tPWL\n");
     for (; in.next != EOF; end_line(&in))
-        if ((start_line(&in) ? answer_line(&in, tabs) : pass_over(&in)) != GOOD)
+        if ((start_line(&in) ? answer_line(&in, store, tabs) : pass_over(&in)) != GOOD)
             status = BAD;
     return ferror(file) ? TROUBLE : status;
 }
 
 /* A file is answered as lots, or as a sheet. */
-static enum status answer_file(const char *path, enum status (*answer_it)(FILE *, int), int tabs)
+static enum status answer_file(const char *path, enum status (*answer_it)(FILE *, const struct store *, int), int tabs)
 {
     int standard = strcmp(path, "-") == 0;
     FILE *file = standard ? stdin : fopen(path, "r");
@@ -210,7 +217,8 @@ static enum status answer_file(const char *path, enum status (*answer_it)(FILE *
         fprintf(stderr, "%s: %s cannot be opened: %s\n", program, path, strerror(errno));
         return TROUBLE;
     }
-    enum status status = answer_it(file, tabs);
+    struct store store = table_106_1();
+    enum status status = answer_it(file, &store, tabs);
     if (status == TROUBLE)
         fprintf(stderr, "%s: %s cannot be read\n", program, standard ? "standard input" : path);
     if (!standard)

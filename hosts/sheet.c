@@ -158,11 +158,17 @@ static struct tulpavice_sheet sheet_of(const int64_t *entries)
     return held;
 }
 
+static struct tulpavice_percentages evaluate(const struct store *s, const struct tulpavice_lot *lot)
+{
+    return tulpavice_evaluate_lot(s->bytes, s->size, s->edition, *lot);
+}
+
 /* The entries that the rules give. Nothing is refused here of what was checked. */
-static void work_out(const struct tulpavice_lot *lots, const int64_t *numbers, int64_t *entries)
+static void work_out(const struct store *store, const struct tulpavice_lot *lots, const int64_t *numbers,
+                     int64_t *entries)
 {
     for (int i = 0; i < LOTS; i++)
-        entries[i] = tulpavice_evaluate_lot(lots[i]).pwl;
+        entries[i] = evaluate(store, &lots[i]).pwl;
     struct tulpavice_payment paid =
         tulpavice_pay(entries[0], entries[1], entries[2], numbers[PRICE_A_TON], numbers[TONS]);
     entries[3] = paid.composite;
@@ -181,10 +187,11 @@ static int is_refused(int at, int64_t number)
 }
 
 /* To blame is the first that is refused by itself, in the library's order. */
-static void tell_refused(const struct sheet *sheet, const struct tulpavice_lot *lots, uint32_t refusal)
+static void tell_refused(const struct sheet *sheet, const struct store *store, const struct tulpavice_lot *lots,
+                         uint32_t refusal)
 {
     int lot = 0, at = 0;
-    while (lot < LOTS && !tulpavice_evaluate_lot(lots[lot]).refusal.number)
+    while (lot < LOTS && !evaluate(store, &lots[lot]).refusal.number)
         lot++;
     if (lot < LOTS) {
         tell_line(sheet->lines[lot]);
@@ -269,17 +276,18 @@ static void show_differences(const int64_t *theirs, const int64_t *ours, int tab
     }
 }
 
-static enum status answer_sheet(const struct sheet *sheet, int tabs)
+static enum status answer_sheet(const struct sheet *sheet, const struct store *store, int tabs)
 {
     const int64_t *numbers = sheet->numbers, *theirs = numbers + ENTRIES;
     int64_t ours[TULPAVICE_ENTRIES];
     struct tulpavice_lot lots[LOTS];
     for (int i = 0; i < LOTS; i++)
         lots[i] = lot_of(&sheet->lots[i].lot);
-    struct tulpavice_checked checked = tulpavice_check(lots[VMA], lots[VOIDS], lots[DENSITY], numbers[PRICE_A_TON],
-                                                       numbers[TONS], sheet_of(theirs));
+    struct tulpavice_checked checked =
+        tulpavice_check(store->bytes, store->size, store->edition, lots[VMA], lots[VOIDS], lots[DENSITY],
+                        numbers[PRICE_A_TON], numbers[TONS], sheet_of(theirs));
     if (checked.refusal.number) {
-        tell_refused(sheet, lots, checked.refusal.number);
+        tell_refused(sheet, store, lots, checked.refusal.number);
         return BAD;
     }
     if (tabs)
@@ -288,14 +296,14 @@ static enum status answer_sheet(const struct sheet *sheet, int tabs)
         printf("The sheet is right: its six entries are what the rules give.\n");
     else
         printf("The sheet is wrong, first in its %s.\n", KINDS[ENTRIES + checked.entry].name);
-    work_out(lots, numbers, ours);
+    work_out(store, lots, numbers, ours);
     show_differences(theirs, ours, tabs);
     return checked.accepted ? GOOD : BAD;
 }
 
-enum status check_sheet(FILE *file, int tabs)
+enum status check_sheet(FILE *file, const struct store *store, int tabs)
 {
     struct sheet sheet = {0};
     enum status status = read_sheet(file, &sheet);
-    return status == GOOD ? answer_sheet(&sheet, tabs) : status;
+    return status == GOOD ? answer_sheet(&sheet, store, tabs) : status;
 }

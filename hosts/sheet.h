@@ -15,10 +15,10 @@
 #ifndef SHEET_H
 #define SHEET_H
 
-#include "words.h"
+#include "store.h"
 
-/* Shows whether the sheet of a file is right (GOOD), and where it differs from what the rules give. Of a file
-   that is no sheet, or one that the library refuses, it tells the first fault alone, since a sheet is one thing. */
-enum status check_sheet(FILE *file, int tabs);
+/* Shows whether the sheet of a file is right (GOOD) by the edition of a store, and where it differs from what the rules give.
+   Of a file that is no sheet, or one that the library refuses, it tells the first fault alone, since a sheet is one thing. */
+enum status check_sheet(FILE *file, const struct store *store, int tabs);
 
 #endif

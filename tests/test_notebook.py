@@ -394,9 +394,9 @@ class Usage(unittest.TestCase):
         command()
         compiled = re.compile(r"\bhosts/(\w+)\.c\b")
         self.assertEqual(compiled.findall(make("--dry-run", PROGRAM)), [])
-        for header in "hosts/words.h", "hosts/sheet.h":
+        for header in "hosts/words.h", "hosts/sheet.h", "hosts/store.h":
             asked = make("--dry-run", f"--what-if={header}", PROGRAM)
-            self.assertEqual(sorted(compiled.findall(asked)), ["notebook", "sheet", "words"])
+            self.assertEqual(sorted(compiled.findall(asked)), ["notebook", "sheet", "store", "words"])
 
     def test_it_goes_by_the_name_that_it_is_called(self):
         with tempfile.TemporaryDirectory() as folder:

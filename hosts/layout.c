@@ -64,6 +64,10 @@ SIZE(listed, 16);
 AT(listed, refusal, 0);
 AT(listed, items, 8);
 
+SIZE(place, 16);
+AT(place, refusal, 0);
+AT(place, start, 8);
+
 SIZE(sheet, 48);
 AT(sheet, vma, 0);
 AT(sheet, voids, 8);

@@ -1,5 +1,6 @@
 /* The notebook: a program over the library's header alone. It shows the worked example of document 000, answers the lots
-   of a file, a line for each, checks a pay sheet (sheet.h), or cuts a job into lots.
+   of a file, a line for each, checks a pay sheet (sheet.h), both by an edition of the table (store.h), cuts a job into
+   lots, or writes Table 106-1 as an edition.
 
    words.h says how a file is read and what a lot is. A line that is not a lot, or whose lot the library refuses, is
    bad: it is told on standard error, and the next is read. */
@@ -8,7 +9,6 @@
 #include "tulpavice.h"
 #include "words.h"
 
-#include <errno.h>
 #include <stdio.h>
 #include <string.h>
 
@@ -16,14 +16,18 @@ static void show_usage(void)
 {
     int width = (int)strlen(program);
     printf("usage: %s                  shows a worked example\n", program);
-    printf("       %s [--tabs] FILE    answers the lots of a file, or of standard\n", program);
+    printf("       %s [--tabs] [EDITION] FILE\n", program);
+    printf("       %*s                  answers the lots of a file, or of standard\n", width, "");
     printf("       %*s                  input if FILE is -\n", width, "");
-    printf("       %s [--tabs] --check FILE\n", program);
+    printf("       %s [--tabs] [EDITION] --check FILE\n", program);
     printf("       %*s                  checks a pay sheet\n", width, "");
     printf("       %s [--tabs] --cut SUBLOTS\n", program);
     printf("       %*s                  cuts a job of so many sublots into lots\n", width, "");
+    printf("       %s --write-table NUMBER\n", program);
+    printf("       %*s                  writes Table 106-1 as a store of one edition\n", width, "");
     printf("       %s --help           shows this\n", program);
     printf("       %s --version        shows which version this is\n\n", program);
+    printf("EDITION is: --store STORE --edition NUMBER\n\n");
 }
 
 /* The sheet can be pasted into a file: it is the worked example's. */
@@ -50,6 +54,16 @@ static void show_sheet_help(void)
            "error.\n\n");
 }
 
+static void show_store_help(void)
+{
+    printf("PWLs are looked up in Table 106-1. With --store and --edition it is the edition\n"
+           "of that number out of a store: a file of up to %d editions of the table, whose\n"
+           "bytes the manual page describes. --write-table 7 writes one to standard output,\n"
+           "with Table 106-1 as edition 7. A store that is none, or lacks the edition, is\n"
+           "told on standard error, and nothing is answered.\n\n",
+           TULPAVICE_MOST_EDITIONS);
+}
+
 /* The first line can be pasted into a shell: it has the program's folder too. */
 static void show_help(const char *called)
 {
@@ -65,13 +79,14 @@ static void show_help(const char *called)
            "the word that is wrong, and the next is read.\n\n",
            TULPAVICE_MOST);
     show_sheet_help();
+    show_store_help();
     printf("A job of up to %d sublots is cut into lots of ten. Seven or fewer that are\n"
            "left over at its end join the lot before; eight or nine are a lot of their\n"
-           "own. A joined lot has 11 to %d readings, for which the table has no column:\n"
-           "there is no PWL for it, and its line is bad.\n\n"
+           "own. A joined lot has 11 to %d readings, for which Table 106-1 has no column:\n"
+           "by it there is no PWL for the lot, and its line is bad.\n\n"
            "Exit status: 0 no line was bad, or the sheet is right; 1 a line was bad, the\n"
-           "sheet is wrong or cannot be checked, or the job was too long; 2 wrong usage or\n"
-           "a file that fails.\n",
+           "sheet is wrong or cannot be checked, the job was too long, or the store is none\n"
+           "or lacks the edition; 2 wrong usage or a file that fails.\n",
            TULPAVICE_MOST_SUBLOTS, TULPAVICE_MOST);
 }
 
@@ -192,7 +207,7 @@ static enum status answer_line(struct input *in, const struct store *store, int 
         return GOOD;
     }
     tell_line(in->line);
-    tell_refusal(&line, row.refusal);
+    tell_refusal(&line, store, row.refusal);
     return BAD;
 }
 
@@ -209,43 +224,45 @@ static enum status answer_lots(FILE *file, const struct store *store, int tabs)
 }
 
 /* A file is answered as lots, or as a sheet. */
-static enum status answer_file(const char *path, enum status (*answer_it)(FILE *, const struct store *, int), int tabs)
+static enum status answer_file(const char *path, enum status (*answer_it)(FILE *, const struct store *, int),
+                               const struct store *store, int tabs)
 {
     int standard = strcmp(path, "-") == 0;
-    FILE *file = standard ? stdin : fopen(path, "r");
-    if (!file) {
-        fprintf(stderr, "%s: %s cannot be opened: %s\n", program, path, strerror(errno));
+    FILE *file = standard ? stdin : open_file(path);
+    if (!file)
         return TROUBLE;
-    }
-    struct store store = table_106_1();
-    enum status status = answer_it(file, &store, tabs);
+    enum status status = answer_it(file, store, tabs);
     if (status == TROUBLE)
-        fprintf(stderr, "%s: %s cannot be read\n", program, standard ? "standard input" : path);
+        tell_unread(standard ? "standard input" : path);
     if (!standard)
         fclose(file);
     return status;
 }
 
-/* ---- A job, cut into lots ---- */
-
-/* Digits alone. A number too large for its type stays at the type's end, which is as much above what is cut. */
-static int read_sublots(const char *word, size_t *sublots)
-{
-    *sublots = 0;
-    for (const char *at = word; *at; at++) {
-        if (*at < '0' || *at > '9')
-            return 0;
-        size_t digit = (size_t)(*at - '0');
-        *sublots = *sublots > (SIZE_MAX - digit) / 10 ? SIZE_MAX : 10 * *sublots + digit;
-    }
-    return *word != 0;
-}
+/* ---- What the words say ---- */
 
 static enum status wrong_usage(const char *word, const char *why)
 {
     fprintf(stderr, "%s: \"%s\" %s; --help shows how %s is used\n", program, word, why, program);
     return TROUBLE;
 }
+
+static int is(const char *word, const char *text) { return strcmp(word, text) == 0; }
+
+/* Digits alone. A number too large for its type stays at the type's end, which is as much above what is taken. */
+static int read_whole(const char *word, size_t *whole)
+{
+    *whole = 0;
+    for (const char *at = word; *at; at++) {
+        if (*at < '0' || *at > '9')
+            return 0;
+        size_t digit = (size_t)(*at - '0');
+        *whole = *whole > (SIZE_MAX - digit) / 10 ? SIZE_MAX : 10 * *whole + digit;
+    }
+    return *word != 0;
+}
+
+/* ---- A job, cut into lots ---- */
 
 /* The library counts sublots from 0, and people from 1. */
 static void show_lot(size_t lot, uint32_t start, uint32_t count, int tabs)
@@ -258,7 +275,7 @@ static enum status answer_job(const char *word, int tabs)
 {
     uint32_t lots[2 * TULPAVICE_MOST_LOTS];
     size_t sublots;
-    if (!read_sublots(word, &sublots))
+    if (!read_whole(word, &sublots))
         return wrong_usage(word, "is not a number of sublots");
     struct tulpavice_listed cut = tulpavice_cut(sublots, lots, sizeof lots / sizeof *lots);
     if (cut.refusal.number) {
@@ -273,30 +290,140 @@ static enum status answer_job(const char *word, int tabs)
     return GOOD;
 }
 
+/* ---- Editions ---- */
+
+static enum status answer_table(const char *word)
+{
+    size_t number;
+    if (!read_whole(word, &number) || number > UINT16_MAX)
+        return wrong_usage(word, "is not a whole number from 0 to 65535");
+    write_table((uint16_t)number);
+    return GOOD;
+}
+
+/* ---- What is asked for ---- */
+
 /* What begins with a minus, and is more, is an option, known or not; a file of such a name has a path, as ./-x. */
 static int is_option(const char *word) { return word[0] == '-' && word[1]; }
 
+static const char NOT_HERE[] = "is not understood here";
+static const char A_FILE[] = "needs a file, or - for standard input";
+
+/* Takes the word that the one before it needs. The words end in NULL. */
+static enum status take_word(char ***words, const char *needs, const char **taken)
+{
+    char **at = *words;
+    if (!at[1])
+        return wrong_usage(at[0], needs);
+    if (is_option(at[1]))
+        return wrong_usage(at[1], NOT_HERE);
+    *taken = at[1];
+    *words = at + 1;
+    return GOOD;
+}
+
+struct options {
+    int tabs;
+    const char *store, *edition;
+    uint32_t number; /* that the word for an edition says */
+};
+
+/* Any order will do, but each once, and all before what is asked for. */
+static enum status take_options(char ***words, struct options *o)
+{
+    enum status status = GOOD;
+    for (; status == GOOD && **words; ++*words)
+        if (!o->tabs && is(**words, "--tabs"))
+            o->tabs = 1;
+        else if (!o->store && is(**words, "--store"))
+            status = take_word(words, "needs a file", &o->store);
+        else if (!o->edition && is(**words, "--edition"))
+            status = take_word(words, "needs a number", &o->edition);
+        else
+            break;
+    return status;
+}
+
+/* The library takes any number of 32 bits, and says whether the store has such an edition. */
+static enum status check_options(struct options *o)
+{
+    size_t number = 0;
+    if (o->store && !o->edition)
+        return wrong_usage("--store", "needs --edition beside it");
+    if (o->edition && !o->store)
+        return wrong_usage("--edition", "needs --store beside it");
+    if (o->store && is(o->store, "-"))
+        return wrong_usage(o->store, "is standard input, and a store comes from a file");
+    if (o->edition && (!read_whole(o->edition, &number) || number > UINT32_MAX))
+        return wrong_usage(o->edition, "is not a whole number from 0 to 4294967295");
+    o->number = (uint32_t)number;
+    return GOOD;
+}
+
+/* What can be asked for: lots, where no word before them says otherwise. */
+enum asked { LOTS, SHEET, JOB, TABLE };
+
+static const char *const NEEDS[] = {A_FILE, A_FILE, "needs a number of sublots", "needs a number for the edition"};
+
+/* No percentage is asked for where a job is cut or the table written: a store is then not understood. */
+static enum asked asked_by(const char *word, const struct options *o)
+{
+    if (is(word, "--check"))
+        return SHEET;
+    if (is(word, "--cut") && !o->store)
+        return JOB;
+    if (is(word, "--write-table") && !o->store && !o->tabs)
+        return TABLE;
+    return LOTS;
+}
+
+static enum status answer_asked(enum asked asked, const char *word, const struct options *o)
+{
+    struct store store;
+    enum status status = GOOD;
+    if (asked == JOB)
+        return answer_job(word, o->tabs);
+    if (asked == TABLE)
+        return answer_table(word);
+    if (o->store)
+        status = read_store(o->store, o->number, &store);
+    else
+        store = table_106_1();
+    return status == GOOD ? answer_file(word, asked == SHEET ? check_sheet : answer_lots, &store, o->tabs) : status;
+}
+
+static enum status answer_words(char **words)
+{
+    struct options o = {0, NULL, NULL, 0};
+    enum status status = take_options(&words, &o);
+    if (status == GOOD)
+        status = check_options(&o);
+    if (status != GOOD)
+        return status;
+    if (!*words)
+        return o.store ? wrong_usage("--store", "needs a file of lots besides, or - for standard input")
+                       : wrong_usage("--tabs", A_FILE);
+    const char *word = *words;
+    enum asked asked = asked_by(word, &o);
+    if (asked != LOTS)
+        status = take_word(&words, NEEDS[asked], &word);
+    else if (is_option(word))
+        status = wrong_usage(word, NOT_HERE);
+    if (status == GOOD && words[1])
+        status = wrong_usage(words[1], "is a word too many");
+    return status == GOOD ? answer_asked(asked, word, &o) : status;
+}
+
 static enum status answer(int argc, char **argv)
 {
-    int tabs = argc > 1 && strcmp(argv[1], "--tabs") == 0;
-    const char *first = argc > 1 + tabs ? argv[1 + tabs] : "";
-    int job = strcmp(first, "--cut") == 0, sheet = strcmp(first, "--check") == 0;
-    int options = tabs + job + sheet;
-    const char *word = argc > 1 + options ? argv[1 + options] : NULL;
     if (argc < 2)
         show_example();
-    else if (argc == 2 && strcmp(argv[1], "--help") == 0)
+    else if (argc == 2 && is(argv[1], "--help"))
         show_help(argv[0]);
-    else if (argc == 2 && strcmp(argv[1], "--version") == 0)
+    else if (argc == 2 && is(argv[1], "--version"))
         printf("%s (Tulpavice) %s\n", program, TULPAVICE_VERSION);
-    else if (!word)
-        return wrong_usage(argv[options], job ? "needs a number of sublots" : "needs a file, or - for standard input");
-    else if (is_option(word))
-        return wrong_usage(word, "is not understood here");
-    else if (argc > 2 + options)
-        return wrong_usage(argv[2 + options], "is a word too many");
     else
-        return job ? answer_job(word, tabs) : answer_file(word, sheet ? check_sheet : answer_lots, tabs);
+        return answer_words(argv + 1);
     return GOOD;
 }
 

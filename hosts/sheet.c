@@ -195,7 +195,7 @@ static void tell_refused(const struct sheet *sheet, const struct store *store, c
         lot++;
     if (lot < LOTS) {
         tell_line(sheet->lines[lot]);
-        tell_refusal(&sheet->lots[lot], refusal);
+        tell_refusal(&sheet->lots[lot], store, refusal);
         return;
     }
     while (at + 1 < NUMBERS && !is_refused(at, sheet->numbers[at]))

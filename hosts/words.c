@@ -1,9 +1,24 @@
 /* words.h says what these are for. */
 #include "words.h"
 
+#include "store.h"
+
+#include <errno.h>
 #include <string.h>
 
 const char *program = "notebook";
+
+/* ---- Files ---- */
+
+FILE *open_file(const char *path)
+{
+    FILE *file = fopen(path, "r");
+    if (!file)
+        fprintf(stderr, "%s: %s cannot be opened: %s\n", program, path, strerror(errno));
+    return file;
+}
+
+void tell_unread(const char *name) { fprintf(stderr, "%s: %s cannot be read\n", program, name); }
 
 /* ---- Words ---- */
 
@@ -237,7 +252,16 @@ static size_t first_out_of_range(const struct lot *lot)
     return FIRST_READING + i;
 }
 
-void tell_refusal(const struct lot_line *line, uint32_t refusal)
+/* Which table has no column, for whoever chose one. */
+static void tell_table(const struct store *store)
+{
+    if (store->path)
+        fprintf(stderr, "edition %lu", (unsigned long)store->edition);
+    else
+        fputs("the table", stderr);
+}
+
+void tell_refusal(const struct lot_line *line, const struct store *store, uint32_t refusal)
 {
     fprintf(stderr, "refusal %d, ", (int)refusal);
     switch (refusal) {
@@ -258,7 +282,8 @@ void tell_refusal(const struct lot_line *line, uint32_t refusal)
         tell_place(line, UPPER);
         break;
     case 10:
-        fprintf(stderr, "the table has no column for %lu readings, so there is no PWL", (unsigned long)line->lot.count);
+        tell_table(store);
+        fprintf(stderr, " has no column for %lu readings, so there is no PWL", (unsigned long)line->lot.count);
         break;
     default:
         fputs("the header says why", stderr);

@@ -15,11 +15,20 @@
 
 #include <stdio.h>
 
+struct store; /* store.h */
+
 /* The program's name, as it was called, without its folder. */
 extern const char *program;
 
 /* How the program ends. */
 enum status { GOOD, BAD, TROUBLE };
+
+/* ---- Files ---- */
+
+/* Tells a file that cannot be opened, and answers NULL for it. */
+FILE *open_file(const char *path);
+
+void tell_unread(const char *name);
 
 /* ---- Words ---- */
 
@@ -93,8 +102,8 @@ struct lot_line {
 /* Reads what is left of a line as a lot, into one that is all zero, and tells a line that is none. */
 enum status read_lot(struct input *in, struct lot_line *line);
 
-/* Tells a refusal that the library has for the lot. */
-void tell_refusal(const struct lot_line *line, uint32_t refusal);
+/* Tells a refusal that the library has for the lot, by the edition of a store. */
+void tell_refusal(const struct lot_line *line, const struct store *store, uint32_t refusal);
 
 /* ---- What is shown ---- */
 

@@ -1,6 +1,10 @@
-"""What the tests of the notebook share: the program, how it tells a word, and the worked example."""
+"""What the tests of the notebook share: the program, how it tells a word, the worked example, and stores of editions."""
+import contextlib
 import functools
+import pathlib
+import struct
 import subprocess
+import tempfile
 
 from building import ROOT, running
 
@@ -17,6 +21,17 @@ LIMITS = {"VMA": "12.30 16.00", "Voids": "2.65 5.35", "Density": "91.50 97.00"}
 ROWS = {"VMA": "12.890 0.325 97.51", "Voids": "4.160 0.825 91.28", "Density": "92.790 0.910 92.56"}
 
 
+def data():
+    """Table 106-1 in hundredths: the column of each number of readings."""
+    _, *lines = (ROOT / "data/table-106-1.tsv").read_text("ascii").splitlines()
+    return dict(enumerate(zip(*([int(cell.replace(".", "")) for cell in line.split("\t")[1:]] for line in lines)), start=2))
+
+
+TABLE = data()
+# a column by which a side is 100 from the second row on, and one by which it is 50 up to the last row but one
+STEEP, FLAT = (5000, *[10000] * 53), (*[5000] * 53, 10000)
+
+
 @functools.cache
 def command():
     """Builds the program, and returns the words that run it from any folder."""
@@ -30,6 +45,21 @@ def notebook(*words, **more):
     if "input" not in streams:
         streams.setdefault("stdin", subprocess.DEVNULL)
     return subprocess.run([*command(), *words], **streams)
+
+
+def edition(number, columns):
+    """An edition as it stands in a store (document 02, R-5), of columns by their numbers of readings."""
+    parts = [struct.pack(">BHBB", 1, number, min(columns), max(columns)), *(struct.pack(">54H", *columns[n]) for n in sorted(columns))]
+    return struct.pack(">H", sum(map(len, parts))) + b"".join(parts)
+
+
+@contextlib.contextmanager
+def stored(*parts):
+    """A file of these bytes; its folder has nothing else."""
+    with tempfile.TemporaryDirectory() as folder:
+        file = pathlib.Path(folder) / "the store"
+        file.write_bytes(b"".join(parts))
+        yield str(file)
 
 
 def shown(word):

@@ -1,6 +1,8 @@
-"""The notebook: document 000's worked example as `make run` shows it, the lots of a file, each answered or told, and a job cut into lots.
+"""The notebook: document 000's worked example as `make run` shows it, the lots of a file, each answered or told, by Table 106-1 or an edition of a store,
+and a job cut into lots.
 
 test_sheet.py has the pay sheets."""
+import itertools
 import os
 import pathlib
 import pty
@@ -14,7 +16,7 @@ import tty
 import unittest
 
 from building import ROOT, make
-from notebook import command, LIMITS, notebook, PROGRAM, READINGS, ROWS, shown
+from notebook import command, edition, FLAT, LIMITS, notebook, PROGRAM, READINGS, ROWS, shown, STEEP, stored, TABLE
 
 PAPERS = sorted((ROOT.parent / "shared").glob("000_*.txt"))
 ANSWER = re.compile(r"line +(\d+) +mean +(-?\d+\.\d{3}) +deviation +(\d+\.\d{3}) +PWL +(\d+\.\d\d)")
@@ -320,6 +322,170 @@ class Jobs(unittest.TestCase):
         self.assertEqual(notebook("--cut", "0" * 50 + "18").stdout, notebook("--cut", "18").stdout)
 
 
+# Table 106-1 as document 004 prints it, before R-2
+PRINTED = {**TABLE, 3: (*TABLE[3][:4], 5654, *TABLE[3][5:]), 2: (*TABLE[2][:14], 7249, *TABLE[2][15:])}
+# a lot whose index is 0.20, and one whose index is 0.70
+MISPRINTED = b"- 1.2 0 1 2\n- 0.001 0 0.001\n"
+
+
+class Editions(unittest.TestCase):
+    """Lots that are looked up in an edition of a store."""
+
+    def by(self, store, number, text, *options):
+        """What is said of lots by an edition of a file."""
+        return seen(notebook(*options, "--store", store, "--edition", str(number), "-", input=text))
+
+    def told(self, fault, store, number, *options, words=("-",)):
+        """Nothing is answered by that edition of a file, and the fault is told once."""
+        ran = notebook(*options, "--store", store, "--edition", str(number), *words, input=b"- 4 4 4\nx\n- 4 4 4\n")
+        self.assertEqual((ran.stdout, ran.stderr.decode(), ran.returncode), (b"", f"notebook: {store}: refusal {fault}\n", 1))
+
+    def refused(self, fault, number, *parts):
+        """The same of a store of these bytes."""
+        with stored(*parts) as store:
+            self.told(fault, store, number)
+
+    def test_the_table_is_written(self):
+        """Byte for byte the data file's, as document 02 writes an edition."""
+        for word in "0", "1", "7", "255", "256", "65535", "007", "0" * 50 + "258":
+            ran = notebook("--write-table", word)
+            self.assertEqual((ran.stdout, ran.stderr, ran.returncode), (edition(int(word), TABLE), b"", 0))
+            self.assertEqual(len(ran.stdout), 979)
+
+    def test_the_table_that_was_written_is_used_again(self):
+        text = "".join(f"{LIMITS[name]} {READINGS[name]}\n" for name in READINGS).encode() + MISPRINTED + b"- - 4 4\n- 4 4\nx\n- 500.001 4 4\n"
+        for number in "0", "7", "65535":
+            with stored(notebook("--write-table", number).stdout) as store:
+                for options in [], ["--tabs"]:
+                    own, plain = (notebook(*options, *words, "-", input=text) for words in (["--store", store, "--edition", number], []))
+                    self.assertEqual((own.stdout, own.stderr, own.returncode), (plain.stdout, plain.stderr, 1))
+
+    def test_the_edition_that_is_named_is_the_one(self):
+        """Two are as document 004 prints the table and as document 02 corrects it, a third answers 100 for both lots."""
+        with stored(edition(3, PRINTED), edition(258, TABLE), edition(65535, {2: STEEP, 3: STEEP})) as store:
+            for number, pwls in (3, ("56.54", "72.49")), (258, ("55.54", "73.49")), (65535, ("100.00", "100.00")):
+                rows = {1: f"1.000 1.000 {pwls[0]}", 2: f"0.001 0.001 {pwls[1]}"}
+                self.assertEqual(self.by(store, number, MISPRINTED), (rows, 0))
+
+    def test_files_one_after_the_other_are_a_store(self):
+        parts = [notebook("--write-table", number).stdout for number in ("1", "2", "9")]
+        with stored(*parts) as store:
+            for number in 1, 2, 9:
+                self.assertEqual(self.by(store, number, b"- 4 4 4\n"), ({1: "4.000 0.000 100.00"}, 0))
+
+    def test_columns_that_an_edition_has_and_has_not(self):
+        """For every number of readings; of equal readings too, which need no entry."""
+        with stored(edition(4, {n: STEEP for n in range(6, 13)}), edition(5, {17: FLAT}), edition(6, {2: FLAT})) as store:
+            for number, has, pwl in (4, range(6, 13), "100.00"), (5, [17], "50.00"), (6, [2], "50.00"):
+                said, _ = self.by(store, number, "".join(f"- 5{' 4' * n}\n- 4.1 3{' 4' * (n - 2)} 5\n" for n in range(2, 18)).encode())
+                for n in range(2, 18):
+                    none = f"refusal 10, edition {number} has no column for {n} readings, so there is no PWL"
+                    equal, other = said[2 * n - 3], said[2 * n - 2]
+                    self.assertEqual((equal, other.split()[-1] if n in has else other), ("4.000 0.000 100.00", pwl) if n in has else (none, none))
+
+    def test_the_tabs_are_the_same(self):
+        with stored(edition(3, PRINTED)) as store:
+            ran = notebook("--tabs", "--store", store, "--edition", "3", "-", input=MISPRINTED + b"- 4" + b" 4" * 11)
+        self.assertEqual(ran.stdout, b"line\tmean\tdeviation\tPWL\n1\t1.000\t1.000\t56.54\n2\t0.001\t0.001\t72.49\n")
+        self.assertEqual(ran.stderr, b"notebook: line 3: refusal 10, edition 3 has no column for 11 readings, so there is no PWL\n")
+        self.assertEqual(ran.returncode, 1)
+
+    def test_a_lot_s_refusals_are_as_without_a_store(self):
+        text = b"- 5 4\n- 501 4 4\n- - 4 4\n5 4 4 4\n- - 501\n- 501" + b" 4" * 11 + b"\n5 4" + b" 4" * 11 + b"\nx\n"
+        with stored(edition(3, {2: FLAT})) as store:
+            self.assertEqual(self.by(store, 3, text), read(text))
+
+    def test_options_in_any_order(self):
+        with stored(edition(3, PRINTED)) as store:
+            for options in itertools.permutations([["--tabs"], ["--store", store], ["--edition", "3"]]):
+                ran = notebook(*itertools.chain(*options), "-", input=MISPRINTED)
+                self.assertEqual((ran.stdout.split()[-1], ran.stderr, ran.returncode), (b"72.49", b"", 0))
+            self.assertEqual(seen(notebook("--edition", "0003", "--store", store, "-", input=MISPRINTED)), self.by(store, 3, MISPRINTED))
+
+    def test_lots_from_a_file(self):
+        with stored(edition(3, PRINTED)) as store, stored(MISPRINTED) as file:
+            self.assertEqual(seen(notebook("--store", store, "--edition", "3", file)), self.by(store, 3, MISPRINTED))
+
+    def test_what_lies_behind_the_end_is_not_looked_at(self):
+        parts = edition(3, PRINTED), edition(4, TABLE)
+        for behind in (b"\0", b"x", b"\0\0", b"\0\0x", b"\0\0" + edition(1, TABLE), b"\0\0" + edition(5, TABLE), b"\0" * 4000, b"\0\0" + b"x" * 100000,
+                       (b"\0\0" + b"x" * 2**20)[:2**20 - 2 * 979]):
+            with stored(*parts, behind) as store:
+                self.assertEqual(self.by(store, 4, MISPRINTED)[0][1], "1.000 1.000 55.54")
+                self.told("13, it has no edition 5; it has 3, 4", store, 5)
+
+    def test_the_largest_store(self):
+        """Eight editions of sixteen columns."""
+        with stored(*(edition(number, {n: FLAT for n in range(2, 18)}) for number in range(10, 18))) as store:
+            self.assertEqual(os.path.getsize(store), 13880)
+            for number in 10, 17:
+                self.assertEqual(self.by(store, number, b"- 4.1" + b" 4" * 16 + b" 5")[0][1].split()[-1], "50.00")
+            self.told("13, it has no edition 18; it has 10, 11, 12, 13, 14, 15, 16, 17", store, 18)
+
+    def test_an_edition_that_is_not_there(self):
+        for number in 0, 2, 5, 8, 65535, 65536, 65536 + 7, 2**32 - 1:
+            self.refused(f"13, it has no edition {number}; it has 1, 3, 7", number, *(edition(known, TABLE) for known in (1, 3, 7)))
+        self.refused("13, it has no edition 8; it has 7", 8, edition(7, TABLE), b"\0\0", edition(8, TABLE))
+
+    def test_a_store_that_has_none(self):
+        for empty in b"", b"\0", b"x", b"\0\0", b"\0\0x", b"\0" * 5000, b"\0\0" + edition(7, TABLE):
+            self.refused("13, it has no edition 7; it has none", 7, empty)
+
+    def damaged(self, place, *parts, number=3):
+        """The entry at this place is to blame."""
+        self.refused(f"11, it is not up to 8 editions with rising numbers: the entry at byte {place} is wrong", number, *parts)
+
+    def test_a_store_that_is_none(self):
+        good = edition(7, TABLE)
+        wrong = {
+            "text": b"- 4 4 4\n", "one byte short": good[:-1], "a length alone": good[:2], "a head alone": good[:7],
+            "a length too small": b"\x03\xd0" + good[2:], "a length too large": b"\x03\xd2" + good[2:], "a length of one": b"\0\1x",
+            "version 0": good[:2] + b"\0" + good[3:], "version 2": good[:2] + b"\2" + good[3:],
+            "first n 1": good[:5] + b"\1" + good[6:], "first n 3": good[:5] + b"\3" + good[6:], "last n 11": good[:6] + b"\x0b" + good[7:],
+            "last n 18": edition(7, {n: FLAT for n in range(10, 19)}), "first n above last": good[:5] + b"\x0a\2" + good[7:],
+            "no column": good[:5] + b"\5\4", "a start of 50.01": edition(7, {5: (5001, *TABLE[5][1:])}), "a start of 49.99": edition(7, {5: (4999, *TABLE[5][1:])}),
+            "an end of 99.99": edition(7, {5: (*TABLE[5][:53], 9999)}), "an end of 100.01": edition(7, {5: (*TABLE[5][:53], 10001)}),
+            "a fall": edition(7, {4: TABLE[4], 5: (*TABLE[5][:9], TABLE[5][8] - 1, *TABLE[5][10:])}),
+        }
+        for name, entry in wrong.items():
+            with self.subTest(name):
+                self.damaged(0, entry, number=7)
+                self.damaged(979 + 115, edition(3, TABLE), edition(4, {5: FLAT}), entry)
+        for second in good, edition(6, TABLE), edition(0, {5: FLAT}):
+            self.damaged(979, good, second, number=7)
+            self.damaged(979, good, second, edition(9, {5: FLAT}), number=9)
+        self.damaged(8 * 115, *(edition(number, {5: FLAT}) for number in range(9)))
+        self.damaged(0, b"x" * 2**20, number=65536)
+
+    def test_a_store_is_told_before_anything_is_read(self):
+        """Lots, which here are not there, or a sheet, which here is none."""
+        with stored(edition(7, TABLE), edition(7, TABLE)) as wrong, stored(edition(7, TABLE)) as store:
+            for words in ["-"], [f"{store}/none"], ["--check", "-"]:
+                for options in [], ["--tabs"]:
+                    self.told("11, it is not up to 8 editions with rising numbers: the entry at byte 979 is wrong", wrong, 7, *options, words=words)
+                    self.told("13, it has no edition 8; it has 7", store, 8, *options, words=words)
+
+    def test_a_store_that_cannot_be_read(self):
+        """Nor is the file of lots looked for."""
+        with tempfile.TemporaryDirectory() as folder:
+            for name in f"{folder}/none", f"{folder}/none/store", "":
+                ran = notebook("--store", name, "--edition", "7", f"{folder}/lots")
+                self.assertEqual((ran.stdout, ran.returncode), (b"", 2))
+                self.assertRegex(ran.stderr.decode(), rf"\Anotebook: {re.escape(name)} cannot be opened: .+\n\Z")
+            ran = notebook("--store", folder, "--edition", "7", f"{folder}/lots")
+            self.assertEqual((ran.stdout, ran.stderr.decode(), ran.returncode), (b"", f"notebook: {folder} cannot be read\n", 2))
+
+    def test_a_file_too_large_for_a_store(self):
+        for behind in b"\0\0", b"x":
+            with stored(edition(7, TABLE), b"\0\0", behind * 2**20) as store:
+                os.truncate(store, 2**20 + 1)
+                ran = notebook("--store", store, "--edition", "7", "-", input=b"- 4 4 4\n")
+                told = f"notebook: {store} has more than 1048576 bytes, and no store needs so many\n"
+                self.assertEqual((ran.stdout, ran.stderr.decode(), ran.returncode), (b"", told, 2))
+                os.truncate(store, 2**20)
+                self.assertEqual(self.by(store, 7, b"- 4 4 4\n"), ({1: "4.000 0.000 100.00"}, 0))
+
+
 class Usage(unittest.TestCase):
     def test_help(self):
         ran = notebook("--help")
@@ -338,10 +504,10 @@ class Usage(unittest.TestCase):
         self.assertEqual(lines(ANSWER, answer.encode()), [(1, ROWS["Voids"])])
 
     def test_the_manual_s_examples(self):
-        """The page is a text for roff, in which a minus is written with a backslash. A file that it shows is there before."""
+        """The page is a text for roff, in which a minus is written with a backslash. A file that it shows is there before; some write one for the next."""
         page = (ROOT / "hosts/notebook.1.in").read_text("utf-8").replace("\\-", "-")
-        examples, files = (re.findall(rf"^\$ {words}\n((?:[^.$\n].*\n)+)", page, re.M) for words in (r"(.*\btulpavice-notebook -.*)", r"cat (\S+)"))
-        self.assertEqual((len(examples), len(files)), (4, 1))
+        examples, files = (re.findall(rf"^\$ {words}\n((?:[^.$\n].*\n)*)", page, re.M) for words in (r"(.*\btulpavice-notebook -.*)", r"cat (\S+)"))
+        self.assertEqual((len(examples), len(files)), (7, 1))
         with tempfile.TemporaryDirectory() as folder:
             for name, text in files:
                 (pathlib.Path(folder) / name).write_text(text)
@@ -352,8 +518,8 @@ class Usage(unittest.TestCase):
 
     def test_the_manual_names_what_help_names(self):
         page = (ROOT / "hosts/notebook.1.in").read_text("utf-8").replace("\\-", "-")
-        options = set(re.findall(rb"--\w+", notebook("--help").stdout))
-        self.assertEqual({word.encode() for word in re.findall(r"^\.TP\n\.B (--\w+)$", page, re.M)}, options)
+        options = set(re.findall(rb"--[\w-]+", notebook("--help").stdout))
+        self.assertEqual({word.encode() for word in re.findall(r"^\.TP\n\.B (--[\w-]+)$", page, re.M)}, options)
 
     def test_version(self):
         """The header has it, and docs/VERSIONS.md begins with it."""
@@ -376,19 +542,49 @@ class Usage(unittest.TestCase):
         ran = notebook("--tabs", "-", input=b"# none\n")
         self.assertEqual((ran.stdout, ran.stderr, ran.returncode), (b"line\tmean\tdeviation\tPWL\n", b"", 0))
 
-    def test_wrong_usage(self):
-        here, more = "is not understood here", "is a word too many"
-        for words, word, why in ((["-", "-"], "-", more), (["--tabs"], "--tabs", "needs a file, or - for standard input"),
-                                 (["--tabs", "-", "x"], "x", more), (["-", "--tabs"], "--tabs", more), (["--tab", "-"], "--tab", here), (["-x"], "-x", here),
-                                 (["--tabs", "--help"], "--help", here), (["--help", "-"], "--help", here), (["--"], "--", here),
-                                 (["--cut"], "--cut", "needs a number of sublots"), (["--tabs", "--cut"], "--cut", "needs a number of sublots"),
-                                 (["--check"], "--check", "needs a file, or - for standard input"), (["--check", "-", "x"], "x", more),
-                                 (["--tabs", "--check"], "--check", "needs a file, or - for standard input"), (["--check", "--tabs", "-"], "--tabs", here),
-                                 (["-", "--check"], "--check", more), (["--check", "--cut", "18"], "--cut", here), (["--cut", "--check", "-"], "--check", here),
-                                 (["--cut", "18", "19"], "19", more), (["--cut", "--tabs", "18"], "--tabs", here), (["--cut", "-5"], "-5", here),
-                                 *((["--cut", word], word, "is not a number of sublots") for word in ("", "x", "18x", "1.5", "+18", " 18", "0x12", "-"))):
+    def misused(self, *calls):
+        """Each call is told by a word and what is wrong with it, and nothing is answered."""
+        for words, word, why in calls:
             ran = notebook(*words, input=b"- 4 4 4\n")
             self.assertEqual((ran.stdout, ran.stderr.decode(), ran.returncode), (b"", f'notebook: "{word}" {why}; --help shows how notebook is used\n', 2))
+
+    def test_wrong_usage(self):
+        here, more = "is not understood here", "is a word too many"
+        self.misused((["-", "-"], "-", more), (["--tabs"], "--tabs", "needs a file, or - for standard input"),
+                     (["--tabs", "-", "x"], "x", more), (["-", "--tabs"], "--tabs", more), (["--tab", "-"], "--tab", here), (["-x"], "-x", here),
+                     (["--tabs", "--help"], "--help", here), (["--help", "-"], "--help", here), (["--"], "--", here),
+                     (["--cut"], "--cut", "needs a number of sublots"), (["--tabs", "--cut"], "--cut", "needs a number of sublots"),
+                     (["--check"], "--check", "needs a file, or - for standard input"), (["--check", "-", "x"], "x", more),
+                     (["--tabs", "--check"], "--check", "needs a file, or - for standard input"), (["--check", "--tabs", "-"], "--tabs", here),
+                     (["-", "--check"], "--check", more), (["--check", "--cut", "18"], "--cut", here), (["--cut", "--check", "-"], "--check", here),
+                     (["--cut", "18", "19"], "19", more), (["--cut", "--tabs", "18"], "--tabs", here), (["--cut", "-5"], "-5", here),
+                     *((["--cut", word], word, "is not a number of sublots") for word in ("", "x", "18x", "1.5", "+18", " 18", "0x12", "-")))
+
+    def test_wrong_usage_of_a_store(self):
+        """One option without the other, each twice, behind what is asked for, or where no percentage is asked for."""
+        here, more, besides = "is not understood here", "is a word too many", "needs a file of lots besides, or - for standard input"
+        alone, edition_alone = "needs --edition beside it", "needs --store beside it"
+        both = ["--store", "x", "--edition", "7"]
+        self.misused((["--store"], "--store", "needs a file"), (["--tabs", "--edition", "7", "--store"], "--store", "needs a file"),
+                     (["--edition"], "--edition", "needs a number"), (["--store", "x", "--edition"], "--edition", "needs a number"),
+                     (["--store", "x"], "--store", alone), (["--store", "x", "-"], "--store", alone), (["--store", "x", "--cut", "18"], "--store", alone),
+                     (["--edition", "7"], "--edition", edition_alone), (["--edition", "7", "--check", "-"], "--edition", edition_alone),
+                     (both, "--store", besides), ([*both, "--tabs"], "--store", besides), (["--tabs", *both], "--store", besides),
+                     ([*both, "--check"], "--check", "needs a file, or - for standard input"), ([*both, "-", "x"], "x", more),
+                     (["-", *both], "--store", more), (["--check", "-", *both], "--store", more), (["--check", *both, "-"], "--store", here),
+                     ([*both, *both, "-"], "--store", here), ([*both, "--edition", "8", "-"], "--edition", here), (["--tabs", *both, "--tabs", "-"], "--tabs", here),
+                     (["--store", "--edition", "7", "-"], "--edition", here), (["--store", "-x", "--edition", "7", "-"], "-x", here),
+                     (["--store", "x", "--edition", "--tabs", "-"], "--tabs", here), ([*both, "--help"], "--help", here),
+                     ([*both, "--cut", "18"], "--cut", here), ([*both, "--write-table", "7"], "--write-table", here),
+                     (["--store", "-", "--edition", "7", "-"], "-", "is standard input, and a store comes from a file"))
+
+    def test_wrong_usage_of_an_edition_s_number(self):
+        here, none = "is not understood here", ("", "x", "7x", "1.5", "+7", " 7", "7 ", "0x7", "-", f"{2**64 + 7}", f"{10**4000}")
+        self.misused(*((["--store", "x", "--edition", word, "-"], word, "is not a whole number from 0 to 4294967295") for word in (*none, "4294967296")),
+                     *((["--write-table", word], word, "is not a whole number from 0 to 65535") for word in (*none, "65536", f"{2**32 + 7}")),
+                     (["--store", "x", "--edition", "-7", "-"], "-7", here), (["--write-table", "-7"], "-7", here),
+                     (["--write-table"], "--write-table", "needs a number for the edition"), (["--write-table", "7", "8"], "8", "is a word too many"),
+                     (["--tabs", "--write-table", "7"], "--write-table", here), (["--write-table", "--tabs", "7"], "--tabs", here))
 
     def test_it_is_built_anew_where_a_header_changes(self):
         command()
@@ -406,7 +602,7 @@ class Usage(unittest.TestCase):
             self.assertEqual(ran.stderr, b'tulpavice-notebook: line 1: the lower limit "x" is not a number\n')
             ran = subprocess.run([*command()[:-1], str(other), "--help"], capture_output=True, text=True)
             self.assertTrue(ran.stdout.split("\n")[0].endswith(f" | {other} -"))
-            self.assertEqual(re.findall(r"\S*notebook", ran.stdout.split("\n", 1)[1]), ["tulpavice-notebook"] * 6)
+            self.assertEqual(re.findall(r"\S*notebook", ran.stdout.split("\n", 1)[1]), ["tulpavice-notebook"] * 7)
 
     def test_a_file_that_cannot_be_opened(self):
         with tempfile.TemporaryDirectory() as folder:
@@ -435,7 +631,7 @@ class Usage(unittest.TestCase):
     @unittest.skipUnless(os.path.exists("/dev/full"), "there is no full device here")
     def test_answers_that_cannot_be_written(self):
         sheet = b"vma - 4 4 4\nvoids - 4 4 4\ndensity - 4 4 4\nprice 0\nquantity 0\npwl 100 100 100\ncomposite 1.03\nverdict accepted\npay 0"
-        for words, given in ((), None), (("--help",), None), (("-",), b"- 4 4 4\n"), (("--check", "-"), sheet), (("--cut", "18"), None):
+        for words, given in ((), None), (("--help",), None), (("-",), b"- 4 4 4\n"), (("--check", "-"), sheet), (("--cut", "18"), None), (("--write-table", "7"), None):
             with open("/dev/full", "wb") as full:
                 ran = notebook(*words, **({"input": given} if given else {}), stdout=full)
             self.assertEqual((ran.stderr, ran.returncode), (b"notebook: the answers cannot be written\n", 2))

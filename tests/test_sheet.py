@@ -1,6 +1,7 @@
 """The notebook's --check: a pay sheet that is right, one that is wrong, and one that cannot be checked.
 
 The right sheet is the worked example's: document 000's readings, with the PWLs, the composite and the pay that document 01 has for them."""
+import contextlib
 import itertools
 import os
 import pathlib
@@ -13,7 +14,7 @@ import tty
 import unittest
 
 from building import ROOT
-from notebook import LIMITS, notebook, READINGS, shown
+from notebook import edition, LIMITS, notebook, READINGS, shown, STEEP, stored, TABLE
 
 sys.path.append(str(ROOT / "second"))
 from papers import differences, lot_of, our_sheet
@@ -426,6 +427,67 @@ class Refused(unittest.TestCase):
 
     def test_a_refusal_comes_before_what_is_wrong(self):
         self.told(text(pwl="0 0 0", composite="0", pay="-1"), 'line 9: refusal 9, the pay "-1" is not from 0 to 10,000,000,000,000 dollars')
+
+
+class Editions(unittest.TestCase):
+    """Sheets that are checked by an edition of a store: Table 106-1 as edition 7, as edition 8 one by which each lot of the example has a PWL of 100, and as
+    edition 9 one that has no column for ten readings."""
+
+    @classmethod
+    def setUpClass(cls):
+        files = contextlib.ExitStack()
+        cls.addClassCleanup(files.close)
+        cls.store = files.enter_context(stored(edition(7, TABLE), edition(8, {10: STEEP}), edition(9, {9: STEEP})))
+
+    def check(self, number, sheet, *options):
+        return check(sheet, *options, "--store", self.store, "--edition", str(number))
+
+    def test_a_sheet_is_right_by_its_own_edition(self):
+        """Three factors of 103 make a composite of 1.030, and 640,000 dollars times it are 659,200."""
+        best = text(pwl="100 100 100", composite="1.03", pay="659200")
+        for number, sheet in (7, text()), (8, best):
+            self.assertEqual(self.check(number, sheet), (RIGHT, "", 0))
+            self.assertEqual(self.check(number, sheet, "--tabs"), (HEADER, "", 0))
+
+    def test_a_sheet_is_wrong_by_another(self):
+        """Its first entry that differs is named, and each that differs shown, by the edition that is asked for."""
+        self.assertEqual(self.check(8, text(pwl="97.51 100 100", composite="1.03")), (
+            "The sheet is wrong, first in its PWL of VMA.\n"
+            "PWL of VMA       the sheet has 97.51, the rules give 100.00: 2.49 too low\n"
+            "pay              the sheet has $638,720.00, the rules give $659,200.00: $20,480.00 too low\n", "", 1))
+        rows = [["PWL of VMA", "97.51", "100.00", "-2.49"], ["PWL of voids", "91.28", "100.00", "-8.72"], ["PWL of density", "92.56", "100.00", "-7.44"],
+                ["composite", "0.998", "1.030", "-0.032"], ["pay", "638720.00", "659200.00", "-20480.00"]]
+        self.assertEqual(self.check(8, text(), "--tabs"), (HEADER + "".join("\t".join(row) + "\n" for row in rows), "", 1))
+
+    def test_tabs_may_stand_between_the_options(self):
+        ran = notebook("--edition", "7", "--tabs", "--store", self.store, "--check", "-", input=text())
+        self.assertEqual((ran.stdout.decode(), ran.stderr, ran.returncode), (HEADER, b"", 0))
+
+    def test_a_lot_without_a_column_is_to_blame(self):
+        """The first, after all that lots are refused for otherwise; price and quantity come after."""
+        none = "refusal 10, edition 9 has no column for 10 readings, so there is no PWL"
+        for options in [], ["--tabs"]:
+            self.assertEqual(self.check(9, text(price="-1"), *options), ("", f"notebook: line 1: {none}\n", 1))
+        nine = "- 5" + " 4" * 9
+        self.assertEqual(self.check(9, text(vma=nine)), ("", f"notebook: line 2: {none}\n", 1))
+        self.assertEqual(self.check(9, text(vma=nine, voids=nine)), ("", f"notebook: line 3: {none}\n", 1))
+        self.assertEqual(self.check(9, text(vma="- -" + " 4" * 10)), ("", "notebook: line 1: refusal 6, both limits are absent\n", 1))
+        self.assertEqual(self.check(9, text(voids="5 4 4 4")), ("", f"notebook: line 1: {none}\n", 1))
+
+    def test_price_quantity_and_entries_are_refused_alike(self):
+        for changed in {"price": "-1"}, {"quantity": "2000000"}, {"pay": "-1"}, {"pay": "x"}, {"pay": None}:
+            self.assertEqual(self.check(8, text(**changed)), check(text(**changed)))
+
+    def test_a_store_that_is_refused(self):
+        """It is told before the sheet is read; here that has a fault too."""
+        for number, parts, fault in (
+            (8, [edition(7, TABLE)], "13, it has no edition 8; it has 7"), (7, [], "13, it has no edition 7; it has none"),
+            (7, [edition(7, TABLE)[:-1]], "11, it is not up to 8 editions with rising numbers: the entry at byte 0 is wrong"),
+            (7, [edition(7, TABLE), b"pay 3"], "11, it is not up to 8 editions with rising numbers: the entry at byte 979 is wrong"),
+        ):
+            with stored(*parts) as store:
+                for sheet, options in itertools.product((text(), text(pay="x"), b""), ([], ["--tabs"])):
+                    self.assertEqual(check(sheet, *options, "--store", store, "--edition", str(number)), ("", f"notebook: {store}: refusal {fault}\n", 1))
 
 
 class Files(unittest.TestCase):

@@ -103,7 +103,7 @@ CALL = """#include "tulpavice.h"
 int main(void)
 {
     struct tulpavice_lot lot = {0, 0, 0, 0, 0, {0}};
-    struct tulpavice_percentages p = tulpavice_evaluate_lot(lot);
+    struct tulpavice_percentages p = tulpavice_evaluate_lot(0, 0, 0, lot);
     struct tulpavice_mean mean = tulpavice_mean(0, 0);
     const char *version = TULPAVICE_VERSION;
     return p.refusal.number == mean.refusal.number && *version ? 0 : 1;

@@ -9,7 +9,7 @@ import unittest
 from pathlib import Path
 
 from building import ROOT, make, running
-from test_library import PRINTED, fenced
+from test_library import PRINTED, VOIDS, fenced
 
 VERSION = re.search(r'TULPAVICE_VERSION "(.*)"', (ROOT / "include/tulpavice.h").read_text("utf-8"))[1]
 MAJOR = VERSION.split(".")[0]
@@ -75,9 +75,9 @@ class Install(unittest.TestCase):
 
     @unittest.skipUnless(shutil.which("pkg-config"), "there is no pkg-config here")
     def test_a_program_is_built_by_pkg_config(self):
-        """The README's example, by what pkg-config says alone: the header and the library are found nowhere else."""
+        """The README's first example, by what pkg-config says alone: the header and the library are found nowhere else."""
         self.assertEqual(self.asked("--modversion"), [VERSION])
-        (self.folder / "voids.c").write_text(fenced("c", "int main"))
+        (self.folder / "voids.c").write_text(fenced("c", VOIDS))
         *words, _ = running("target/host/notebook")
         loaded = str(self.prefix / "lib")
         if platform.machine() == "x86_64":

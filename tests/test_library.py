@@ -29,6 +29,8 @@ def listed(start):
 
 
 PRINTED = fenced("text", "refusal 0")
+# what the two examples in C are known by
+VOIDS, EDITIONS = "int32_t voids[]", "tulpavice_store("
 
 
 def ran(command):
@@ -36,13 +38,20 @@ def ran(command):
 
 
 class Library(unittest.TestCase):
-    def test_from_c(self):
+    def from_c(self, name, text, printed):
+        """A program of that text is built as the README says, and prints this."""
         EXAMPLE.mkdir(parents=True, exist_ok=True)
-        (EXAMPLE / "voids.c").write_text(fenced("c", "int main"))
-        make("HOST=target/example", "HOSTS=target/example", "target/example/voids")
+        (EXAMPLE / f"{name}.c").write_text(text)
+        make("HOST=target/example", "HOSTS=target/example", f"target/example/{name}")
         *words, _ = running("target/host/answers")
-        shown = ran([*words, "target/example/voids"])
-        self.assertEqual((shown.stdout, shown.returncode), (PRINTED, 0), shown.stderr)
+        shown = ran([*words, f"target/example/{name}"])
+        self.assertEqual((shown.stdout, shown.returncode), (printed, 0), shown.stderr)
+
+    def test_from_c(self):
+        self.from_c("voids", fenced("c", VOIDS), PRINTED)
+
+    def test_editions_from_c(self):
+        self.from_c("editions", fenced("c", EDITIONS), fenced("text", "edition 1, "))
 
     @unittest.skipUnless(platform.machine() == "x86_64", "the library can be loaded on x86-64 alone")
     def test_from_python(self):

@@ -75,6 +75,7 @@ pub mod Sheets
 pub mod CompareAnswers
 pub mod OurAnswers
 pub mod CheckAnswers
+pub mod DeskStore
 pub mod DeskSheet
 pub mod DeskJob
 pub mod Spelled

@@ -7,13 +7,17 @@ import math
 import random
 
 import papers
+import sequences
+import stores
 from lots import (
     closest_misses, COLUMNS, counted, COUNTS, desk, equal, extreme, farthest_apart, hairs, halves, INT32, JOINED,
     joined, limited, near_ties, realistic, refused, SIZES, small, some, spoiled, subsets, ties, uniform, UNREAD,
 )
 from papers import (
-    differences, ENTRIES, HEAD, lot_of, lots_of, MOST, MOST_ENTRY, MOST_SUBLOTS, our_sheet, pack, RANGE,
+    differences, ENTRIES, HEAD, lot_of, lots_of, MOST, MOST_EDITIONS, MOST_ENTRY, MOST_SUBLOTS, our_sheet, pack, RANGE,
+    spaced as line, to_hex,
 )
+from stores import PRINTED, with_byte
 
 INT64 = -(2**63), 2**63 - 1
 
@@ -21,34 +25,104 @@ INT64 = -(2**63), 2**63 - 1
 UNHELD = 0, 1, MOST + 1, MOST + 2, 255, 256 + 4, 2**16 + 4, 2**31 + 4, 2**32 - 1
 
 
-def line(kind, *words):
-    return " ".join([kind, *map(str, words)])
+def lot_line(kind, named, upper, upper_present, lower, lower_present, readings):
+    return line(kind, named, upper, upper_present, lower, lower_present, len(readings), *readings)
 
 
-def lot_line(kind, upper, upper_present, lower, lower_present, readings):
-    return line(kind, upper, upper_present, lower, lower_present, len(readings), *readings)
+def held_line(rng, named, lot):
+    return line("held", named, *in_memory(rng, lot))
+
+
+def bytes_line(named, lot, data):
+    return line("bytes", named, *lot[:4], to_hex(data))
+
+
+def spelled(readings):
+    return b"".join(reading.to_bytes(4, "big", signed=True) for reading in readings)
+
+
+def placed(rng, readings):
+    """All places of a lot, those after its readings filled with what is not to be read."""
+    return readings[:MOST] + rng.choices(UNREAD, k=max(0, MOST - len(readings)))
+
+
+def in_memory(rng, lot):
+    return *lot[:4], len(lot[4]), *placed(rng, lot[4])
+
+
+# The stores that a percentage is looked up in. One that is lent stays so until the next.
+
+
+def lend_line(buffer):
+    return line("lend", to_hex(buffer))
+
+
+def fitting(rng, made, lot):
+    """The number of an edition that has a column for the lot, where there is one; now and then any."""
+    having = [edition.number for edition in made if len(lot[4]) in edition.columns]
+    return rng.choice(having) if having and rng.random() < 0.97 else stores.unsure(rng, made)
+
+
+def some_editions(rng):
+    """One to eight, and now and then Table 106-1 among them."""
+    made = stores.editions(rng, rng.randint(1, MOST_EDITIONS))
+    return stores.with_printed(rng, made) if rng.random() < 0.15 else made
+
+
+def counts_of(made):
+    return sorted({count for edition in made for count in edition.columns})
+
+
+def lent_lots(rng, times):
+    """Editions, and 75 lots that have a column in one of them, so many times."""
+    for _ in range(times):
+        made = some_editions(rng)
+        having = counts_of(made)
+        makes = realistic(rng, 40, having), small(rng, 20, having), equal(rng, 3, having), extreme(rng, 6, having)
+        yield made, itertools.chain(*makes, uniform(rng, 6, RANGE, having))
+
+
+def refusing(rng):
+    """Lines that lend a store, and what names an edition: Table 106-1; one that is not there; one of a damaged store, or none."""
+    number, whole = PRINTED.number, stores.some_store(rng, [PRINTED])
+    yield lend_line(whole), lambda: number
+    yield lend_line(whole), lambda: rng.choice((0, number - 1, number + 1, number + 2**16, 2**32 - 1))
+    yield lend_line(stores.damaged(rng, whole, [0])), lambda: rng.choice((number, number, number + 1))
 
 
 # Calls on lots.
 
 
 def lots(rng):
+    yield lend_line(stores.store([PRINTED]))
     accepted = (
         desk(),
-        realistic(rng, 100_000),
-        small(rng, 50_000),
-        uniform(rng, 12_000, RANGE),
-        equal(rng, 4_000),
-        extreme(rng, 12_000),
+        realistic(rng, 8_000),
+        small(rng, 4_000),
+        uniform(rng, 1_000, RANGE),
+        equal(rng, 1_000),
+        extreme(rng, 1_000),
         ties(rng, 4),
         near_ties(rng, 4),
         closest_misses(rng),
         hairs(rng),
     )
-    for lot in itertools.chain(*accepted, joined(rng, 2_500), counted(rng), refused(rng, 600)):
-        yield lot_line("lot", *lot)
+    for lot in itertools.chain(*accepted, joined(rng, 500), counted(rng)):
+        yield lot_line("lot", PRINTED.number, *lot)
     # as many readings as a narrower count would take for four
-    yield lot_line("lot", 100, 1, 0, 1, [1, 2, 3, 4] * (2**14 + 1))
+    yield lot_line("lot", PRINTED.number, 100, 1, 0, 1, [1, 2, 3, 4] * (2**14 + 1))
+    widest = stores.edition(rng, 17, COUNTS)
+    yield lend_line(stores.some_store(rng, [widest]))
+    for lot in itertools.chain(ties(rng, 1, JOINED), near_ties(rng, 1, JOINED), farthest_apart(COUNTS)):
+        yield lot_line("lot", widest.number, *lot)
+    for made, lots in lent_lots(rng, 2_600):
+        yield lend_line(stores.some_store(rng, made))
+        for lot in lots:
+            yield lot_line("lot", fitting(rng, made, lot), *lot)
+    for lent, named in refusing(rng):
+        yield lent
+        for lot in refused(rng, 200):
+            yield lot_line("lot", named(), *lot)
 
 
 def deviations(rng):
@@ -58,49 +132,84 @@ def deviations(rng):
     narrow = itertools.chain(small(rng, 15_000), small(rng, 5_000, JOINED), halves(rng, 2_500))
     wide = itertools.chain(uniform(rng, 10, RANGE), extreme(rng, 10))
     wide_joined = itertools.chain(uniform(rng, 7, RANGE, JOINED), extreme(rng, 7, JOINED), farthest_apart(JOINED))
-    asked = desk(), narrow, modest, wide, wide_joined, counted(rng), refused(rng, 100)
-    for *limits, readings in itertools.chain(*asked):
-        yield lot_line("deviation", *limits, readings)
+    # a joined lot has a percentage by the one and none by the other
+    made = [PRINTED, stores.edition(rng, 2_000, COUNTS)]
+    yield lend_line(stores.some_store(rng, made))
+    for *limits, readings in itertools.chain(desk(), narrow, modest, wide, wide_joined, counted(rng)):
+        named = rng.choice(made).number
+        yield lot_line("deviation", named, *limits, readings)
         if readings and readings[0] < RANGE:
-            yield lot_line("deviation", *limits, [readings[0] + 1, *readings[1:]])
-
-
-def spelled(readings):
-    """As bytes, or no bytes at all."""
-    return b"".join(reading.to_bytes(4, "big", signed=True) for reading in readings).hex() or "-"
+            yield lot_line("deviation", named, *limits, [readings[0] + 1, *readings[1:]])
+    for lent, named in refusing(rng):
+        yield lent
+        for lot in refused(rng, 67):
+            yield lot_line("deviation", named(), *lot)
 
 
 def rows(rng):
     """Readings as bytes, of any size."""
     sizes = *range(4 * MOST + 10), *(4 * count for count in COUNTS), 4 * 255, 4 * 258
+    made = [PRINTED, stores.edition(rng, 2_000, COUNTS)]
+    yield lend_line(stores.some_store(rng, made))
     for _ in range(10_000):
         size = rng.choice(sizes)
         start = rng.choice((b"\0\0\0", b"\0\0\1", b"\xff\xff\xff", b"\0\7\xa1", b"\xff\xf8\x5e"))
         data = b"".join(start + rng.randbytes(1) for _ in range(size // 4)) + rng.randbytes(size % 4)
-        yield line("bytes", *limited(rng, -1000, 1000, None)[:4], data.hex() or "-")
-    accepted = uniform(rng, 4_000, 900), uniform(rng, 1_500, 900, JOINED), extreme(rng, 20, JOINED)
-    for lot in itertools.chain(*accepted, counted(rng)):
-        yield line("bytes", *lot[:4], spelled(lot[4]))
-    for reasons, _ in itertools.product(subsets((4, 5, 6, 7, 10)), range(50)):
-        lot = spoiled(rng, reasons, some(rng, reasons, (*SIZES, *COUNTS)))
-        # a count that a lot can have is refused for bytes that are missing
-        short = 2 * rng.choice((1, 2, 3)) if 4 in reasons and len(lot[4]) in COUNTS else 0
-        data = spelled(lot[4])
-        yield line("bytes", *lot[:4], data[: len(data) - short])
-
-
-def placed(rng, readings):
-    """All places of a lot, those after its readings filled with what is not to be read."""
-    return readings[:MOST] + rng.choices(UNREAD, k=max(0, MOST - len(readings)))
+        yield bytes_line(rng.choice(made).number, limited(rng, -1000, 1000, None), data)
+    for lot in itertools.chain(extreme(rng, 20, JOINED), counted(rng)):
+        yield bytes_line(rng.choice(made).number, lot, spelled(lot[4]))
+    for _ in range(100):
+        made = some_editions(rng)
+        yield lend_line(stores.some_store(rng, made))
+        for lot in uniform(rng, 55, 900, counts_of(made)):
+            yield bytes_line(fitting(rng, made, lot), lot, spelled(lot[4]))
+    for lent, named in refusing(rng):
+        yield lent
+        for reasons, _ in itertools.product(subsets((4, 5, 6, 7, 10)), range(17)):
+            lot = spoiled(rng, reasons, some(rng, reasons, (*SIZES, *COUNTS)))
+            # a count that a lot can have is refused for bytes that are missing
+            short = rng.choice((1, 2, 3)) if 4 in reasons and len(lot[4]) in COUNTS else 0
+            data = spelled(lot[4])
+            yield bytes_line(named(), lot, data[: len(data) - short])
 
 
 def held(rng):
-    accepted = desk(), realistic(rng, 15_000), small(rng, 10_000), extreme(rng, 5_000), ties(rng, 1)
-    for lot in itertools.chain(*accepted, joined(rng, 600), counted(rng)):
-        yield line("held", *lot[:4], len(lot[4]), *placed(rng, lot[4]))
-    for reasons, _ in itertools.product(subsets((4, 5, 6, 7, 10)), range(200)):
-        lot = spoiled(rng, reasons, some(rng, reasons, COUNTS))
-        yield line("held", *lot[:4], rng.choice(UNHELD) if 4 in reasons else len(lot[4]), *placed(rng, lot[4]))
+    yield lend_line(stores.store([PRINTED]))
+    for lot in itertools.chain(desk(), ties(rng, 1), joined(rng, 600), counted(rng)):
+        yield held_line(rng, PRINTED.number, lot)
+    for made, lots in lent_lots(rng, 400):
+        yield lend_line(stores.some_store(rng, made))
+        for lot in lots:
+            yield held_line(rng, fitting(rng, made, lot), lot)
+    for lent, named in refusing(rng):
+        yield lent
+        for reasons, _ in itertools.product(subsets((4, 5, 6, 7, 10)), range(67)):
+            lot = spoiled(rng, reasons, some(rng, reasons, COUNTS))
+            count = rng.choice(UNHELD) if 4 in reasons else len(lot[4])
+            yield line("held", named(), *lot[:4], count, *placed(rng, lot[4]))
+
+
+def first_lot(rng, buffer):
+    """A lot that the first edition of some bytes has a column for, where they start with one; or one that is refused."""
+    count = buffer[5] if len(buffer) > 5 and buffer[5] in COUNTS else 4
+    reasons = rng.choice(((), (), (), (4,), (5,), (6,), (7,)))
+    readings = [rng.randint(-3000, 3000) for _ in range(count)]
+    return spoiled(rng, reasons, readings * 9 if 4 in reasons else readings)
+
+
+def lookups(rng):
+    """Stores that are damaged, and sound ones that are near to them, with every call that asks for a percentage."""
+    for buffer in stores.damaged_stores(rng):
+        yield lend_line(buffer)
+        named, lot = stores.first_number(buffer), first_lot(rng, buffer)
+        yield lot_line("lot", named, *lot)
+        yield held_line(rng, named, lot)
+        yield bytes_line(named, lot, spelled(lot[4]))
+        yield check_line(named, three_lots(rng, [lot] * 3), *priced(rng), [0] * ENTRIES)
+    whole = stores.some_store(rng, stores.editions(rng, 3, 2))
+    for buffer in stores.each_byte_changed(whole):
+        yield lend_line(buffer)
+        yield lot_line("lot", stores.first_number(rng.choice((whole, buffer))), *first_lot(rng, whole))
 
 
 # Records.
@@ -109,10 +218,6 @@ def held(rng):
 def record(lot):
     upper, upper_present, lower, lower_present, readings = lot
     return pack(lot_of(upper, upper_present, lower, lower_present, len(readings), readings))
-
-
-def with_byte(data, place, value):
-    return data[:place] + bytes([value]) + data[place + 1 :]
 
 
 def edited(rng):
@@ -187,7 +292,7 @@ def reads(rng):
     # 10 is no refusal of a record: a longer lot is read as any other
     reasons = (spoiled_record(rng, reasons) for reasons in subsets((1, 2, 3, 4, 5, 6, 7, 10)) for _ in range(40))
     for data in itertools.chain(valid, edited(rng), resized(rng), runs(), reasons):
-        yield line("read", data.hex() or "-")
+        yield line("read", to_hex(data))
 
 
 def writes(rng):
@@ -244,6 +349,8 @@ def pay_with(rng, part):
     while True:
         percents = [rng.randint(0, HUNDRED) for _ in range(3)]
         quantity = rng.randrange(1, MOST_QUANTITY)
+        if part % math.gcd(quantity, 100_000):
+            continue
         factor = papers.payment(*percents, 0, 0)[0] * quantity
         common = math.gcd(factor, 100_000)
         if part % common == 0:
@@ -269,7 +376,7 @@ def pays(rng):
     for _ in range(20_000):
         for part in 49_999, 50_000, 50_001:
             yield line("pay", *pay_with(rng, part))
-    for _ in range(65_000):
+    for _ in range(65_100):
         percents = [rng.choice((rng.randint(0, HUNDRED), rng.randint(4_900, 5_100))) for _ in range(3)]
         price = rng.choice((rng.randrange(3_000, 15_000), rng.randint(0, MOST_PRICE)))
         quantity = rng.choice((rng.randrange(0, 3_000_000), rng.randint(0, MOST_QUANTITY)))
@@ -280,13 +387,13 @@ def pays(rng):
 
 
 def sheet_lots(rng):
-    """Lots that have a percentage, most of them as they come from a job; few, so that each is in many sheets."""
-    extremes = equal(rng, 100), extreme(rng, 100), uniform(rng, 100, RANGE)
-    return [*desk(), *realistic(rng, 1_000), *small(rng, 200), *itertools.chain(*extremes)]
+    """Lots of every count, most of them as they come from a job; few, so that each is in many sheets."""
+    extremes = equal(rng, 200, COUNTS), extreme(rng, 200, COUNTS), uniform(rng, 200, RANGE, COUNTS)
+    return [*desk(), *realistic(rng, 1_500, COUNTS), *small(rng, 300, COUNTS), *itertools.chain(*extremes)]
 
 
-def in_memory(rng, lot):
-    return *lot[:4], len(lot[4]), *placed(rng, lot[4])
+def having_column(pool, edition):
+    return [lot for lot in pool if len(lot[4]) in edition.columns]
 
 
 def priced(rng):
@@ -294,8 +401,8 @@ def priced(rng):
     return rng.choice((usual, usual, (rng.randint(0, MOST_PRICE), rng.randint(0, MOST_QUANTITY))))
 
 
-def right_sheet(lots, price, quantity):
-    return our_sheet([lot_of(*lot[:4], len(lot[4]), tuple(lot[4])) for lot in lots], price, quantity)
+def right_sheet(lots, edition, price, quantity):
+    return our_sheet([lot_of(*lot[:4], len(lot[4]), tuple(lot[4])) for lot in lots], edition.columns, price, quantity)
 
 
 def changed(rng, sheet, entries):
@@ -323,44 +430,65 @@ def bad_priced(rng):
     return rng.randint(0, MOST_PRICE), rng.choice((INT64[0], -1, MOST_QUANTITY + 1, INT64[1]))
 
 
-def check_line(rng, lots, price, quantity, sheet):
-    return line("check", *(number for lot in lots for number in in_memory(rng, lot)), price, quantity, *sheet)
+def three_lots(rng, lots):
+    """The words of the lots, which several sheets have in common."""
+    return " ".join(str(number) for lot in lots for number in in_memory(rng, lot))
+
+
+def check_line(named, lots, price, quantity, sheet):
+    return line("check", named, lots, price, quantity, *sheet)
 
 
 def checks(rng):
     pool = sheet_lots(rng)
-    for _ in range(10_000):
-        lots, (price, quantity) = rng.choices(pool, k=3), priced(rng)
-        sheet = right_sheet(lots, price, quantity)
-        yield check_line(rng, lots, price, quantity, sheet)
-        for entry in range(ENTRIES):
-            yield check_line(rng, lots, price, quantity, changed(rng, sheet, [entry]))
-        for several in 2, 2, rng.randint(3, ENTRIES):
-            yield check_line(rng, lots, price, quantity, changed(rng, sheet, rng.sample(range(ENTRIES), several)))
-        # of the lots in another order, so that what is wrong lies in the lots
-        yield check_line(rng, lots[::-1], price, quantity, sheet)
+    for times in range(380):
+        # by Table 106-1, and by one of some others
+        made = some_editions(rng) if times % 2 else [PRINTED]
+        by = rng.choice(made)
+        yield lend_line(stores.some_store(rng, made))
+        yield from sheets_checked(rng, having_column(pool, by), by, 25)
+    yield lend_line(stores.store([PRINTED]))
+    pool = having_column(pool, PRINTED)
     for entry, number, _ in itertools.product(range(ENTRIES), ENTRY_BOUNDS, range(10)):
         lots, (price, quantity) = rng.choices(pool, k=3), priced(rng)
-        sheet = right_sheet(lots, price, quantity)
+        sheet = right_sheet(lots, PRINTED, price, quantity)
         for start in sheet, changed(rng, sheet, [rng.randrange(ENTRIES)]):
-            yield check_line(rng, lots, price, quantity, [*start[:entry], number, *start[entry + 1 :]])
+            wrong = [*start[:entry], number, *start[entry + 1 :]]
+            yield check_line(PRINTED.number, three_lots(rng, lots), price, quantity, wrong)
     for price, quantity in itertools.product(around(MOST_PRICE), around(MOST_QUANTITY)):
         lots = rng.choices(pool, k=3)
-        sheet = right_sheet(lots, 8_000, 800_000)
-        yield check_line(rng, lots, price, quantity, sheet)
-        yield check_line(rng, lots, price, quantity, unfit(rng, sheet))
-    yield from refused_checks(rng, pool)
+        sheet = right_sheet(lots, PRINTED, 8_000, 800_000)
+        yield check_line(PRINTED.number, three_lots(rng, lots), price, quantity, sheet)
+        yield check_line(PRINTED.number, three_lots(rng, lots), price, quantity, unfit(rng, sheet))
+    for lent, named in refusing(rng):
+        yield lent
+        yield from refused_checks(rng, named, pool)
 
 
-def refused_checks(rng, pool):
+def sheets_checked(rng, pool, by, times):
+    """Sheets by an edition: right, and with any of their entries wrong."""
+    for _ in range(times):
+        lots, (price, quantity) = rng.choices(pool, k=3), priced(rng)
+        sheet, held = right_sheet(lots, by, price, quantity), three_lots(rng, lots)
+        yield check_line(by.number, held, price, quantity, sheet)
+        for entry in range(ENTRIES):
+            yield check_line(by.number, held, price, quantity, changed(rng, sheet, [entry]))
+        for several in 2, 2, rng.randint(3, ENTRIES):
+            wrong = changed(rng, sheet, rng.sample(range(ENTRIES), several))
+            yield check_line(by.number, held, price, quantity, wrong)
+        # of the lots in another order, so that what is wrong lies in the lots
+        yield check_line(by.number, three_lots(rng, lots[::-1]), price, quantity, sheet)
+
+
+def refused_checks(rng, named, pool):
     """Each lot refused for each reason or for none, and with it prices and sheets that are refused and that are not."""
     reasons = (), (4,), (5,), (6,), (7,), (10,), (4, 5), (5, 7), (7, 10)
     for given in itertools.product(reasons, repeat=3):
         for bad_price, bad_sheet in itertools.product((False, True), repeat=2):
             lots = [spoiled(rng, why, some(rng, why, SIZES)) if why else rng.choice(pool) for why in given]
             price, quantity = bad_priced(rng) if bad_price else priced(rng)
-            sheet = [0] * ENTRIES if any(given) or bad_price else right_sheet(lots, price, quantity)
-            yield check_line(rng, lots, price, quantity, unfit(rng, sheet) if bad_sheet else sheet)
+            sheet = [0] * ENTRIES if any(given) or bad_price else right_sheet(lots, PRINTED, price, quantity)
+            yield check_line(named(), three_lots(rng, lots), price, quantity, unfit(rng, sheet) if bad_sheet else sheet)
 
 
 def some_sheet(rng):
@@ -370,7 +498,7 @@ def some_sheet(rng):
 
 def compares(rng):
     """Sheets that differ in any of their entries, with lists too short, fitting and longer; and sheets that are refused."""
-    for entries, _ in itertools.product(subsets(range(ENTRIES)), range(350)):
+    for entries, _ in itertools.product(subsets(range(ENTRIES)), range(352)):
         first = some_sheet(rng)
         second = [abs(entry) for entry in changed(rng, first, entries)]
         need = 2 * len(differences(first, second))
@@ -411,5 +539,6 @@ def mixtures(rng):
 
 def calls(seed):
     rng = random.Random(seed)
-    for kind in lots, deviations, rows, held, reads, writes, cuts, pays, mixtures, checks, compares:
+    on_lots = lots, deviations, rows, held, lookups
+    for kind in sequences.tables, *on_lots, reads, writes, cuts, pays, mixtures, checks, compares, sequences.sequences:
         yield from kind(rng)

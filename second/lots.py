@@ -11,7 +11,7 @@ from papers import LAST, MOST, RANGE
 
 INT32 = -(2**31), 2**31 - 1
 COUNTS = range(2, MOST + 1)
-COLUMNS = tuple(papers.TABLE)  # the counts that have one
+COLUMNS = tuple(papers.TABLE)  # the counts that have one in Table 106-1
 JOINED = tuple(count for count in COUNTS if count not in COLUMNS)
 ROWS = range(1, LAST + 1)
 
@@ -24,7 +24,7 @@ OUTSIDE = RANGE + 1, -RANGE - 1, RANGE + 2, 2**24, -(2**24), *INT32
 EDGES = -RANGE, -RANGE + 1, -1, 0, 1, RANGE - 1, RANGE
 
 
-# Lots that are accepted; a percentage is to be had of them if their count has a column.
+# Lots that are accepted; a percentage is to be had of them if their count has a column in the edition that is named.
 
 
 def desk():
@@ -83,7 +83,7 @@ def realistic(rng, times, counts=COLUMNS):
 def uniform(rng, times, widest, counts=COLUMNS):
     """Readings and limits that are whole numbers between -widest and widest."""
     for _ in range(times):
-        readings = [rng.randint(-widest, widest) for _ in range(rng.choice(counts))]
+        readings = rng.choices(range(-widest, widest + 1), k=rng.choice(counts))
         lower, upper = sorted((rng.randint(-widest, widest), rng.randint(-widest, widest)))
         yield limited(rng, lower, upper, readings)
 
@@ -129,10 +129,12 @@ def spread_of(readings):
     return len(readings) * sum(reading * reading for reading in readings) - sum(readings) ** 2
 
 
-def rational(rng, count, widest):
-    """Small readings with a deviation that is a fraction, and count times that deviation. Of two there are none."""
+def rational(rng, count):
+    """Small readings with a deviation that is a fraction, and count times that deviation.
+
+    Of two there are none. Of six, eight, ten and fourteen there are none up to 4, and wider ones are rarer."""
     while True:
-        readings = [rng.randint(0, widest) for _ in range(count)]
+        readings = rng.choices(range(7), k=count)
         spread = spread_of(readings)
         square, remainder = divmod(count * spread, count - 1)
         root = math.isqrt(square)
@@ -148,24 +150,25 @@ def one_sided(rng, upper, readings):
     yield -lower, lower_present, -upper, rng.choice(PRESENT), [-reading for reading in readings]
 
 
-def ties(rng, times):
-    for count, row, sign, _ in itertools.product(COLUMNS[1:], ROWS, (1, -1), range(times)):
-        readings, root = rational(rng, count, 12)
-        # over 40 * count, the limit at which the index is (2 * row - 1)/40; the readings are scaled to make it whole
-        limit = 40 * sum(readings) + sign * (2 * row - 1) * root
-        scale = 40 * count // math.gcd(40 * count, limit) * rng.randint(1, 20)
-        shift = rng.choice((0, rng.randint(-100_000, 100_000)))
-        tied = scale * limit // (40 * count) + shift
-        for upper in tied - 1, tied, tied + 1:
-            yield from one_sided(rng, upper, [scale * reading + shift for reading in readings])
+def ties(rng, times, counts=COLUMNS[1:]):
+    for count, row, _ in itertools.product(counts, ROWS, range(times)):
+        readings, root = rational(rng, count)
+        for odd in 2 * row - 1, 1 - 2 * row:
+            # over 40 * count, the limit at which the index is odd/40; the readings are scaled to make it whole
+            limit = 40 * sum(readings) + odd * root
+            scale = 40 * count // math.gcd(40 * count, limit) * rng.randint(1, 20)
+            shift = rng.choice((0, rng.randint(-100_000, 100_000)))
+            tied = scale * limit // (40 * count) + shift
+            for upper in tied - 1, tied, tied + 1:
+                yield from one_sided(rng, upper, [scale * reading + shift for reading in readings])
 
 
-def near_ties(rng, times):
+def near_ties(rng, times, counts=COLUMNS):
     """Any readings, with the two limits between which the row changes."""
-    for count, row, sign, _ in itertools.product(COLUMNS, ROWS, (1, -1), range(times)):
+    for count, row, sign, _ in itertools.product(counts, ROWS, (1, -1), range(times)):
         widest = rng.choice((10, 1000, 100_000))
         readings = [rng.randint(-widest, widest) for _ in range(count - 1)] + [widest + 1]
-        change = papers.mean(readings) + sign * (2 * row - 1) * papers.deviation(readings) / 40
+        change = papers.mean(readings) + sign * (2 * row - 1) * papers.deviation(tuple(readings)) / 40
         for upper in math.floor(change), math.floor(change) + 1:
             yield from one_sided(rng, upper, readings)
 
@@ -286,11 +289,11 @@ def subsets(numbers):
 
 
 def some(rng, reasons, sizes):
-    """Readings, now and then equal: as many as no column is for where 10 is a reason, of these sizes where 4 is."""
+    """Readings, now and then equal: as many as Table 106-1 has no column for where 10 is a reason, of these sizes where 4 is."""
     count = rng.choice(sizes if 4 in reasons else JOINED if 10 in reasons else COLUMNS)
     apart = rng.choice((0, 3000, 3000, 3000))
     middle = rng.randint(-3000, 3000)
-    return [middle + rng.randint(-apart, apart) for _ in range(count)]
+    return rng.choices(range(middle - apart, middle + apart + 1), k=count)
 
 
 def presences(rng, reasons):

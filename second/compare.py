@@ -1,12 +1,13 @@
 """Runs the library beside the second program: python3 second/compare.py [--seed N] [--stop] COMMAND...
 
 COMMAND answers calls over the library, as hosts/answers.c does. It is fed every call of second/calls.py, and each
-answer is held against that of second/papers.py. Succeeds if none differs, there were enough calls of each kind, and
-each row of the table was found inside a limit and outside, by one number of tries.
-With --stop it ends at the first that differs.
+answer is held against that of second/papers.py. Succeeds if none differs, there were enough calls of each kind, enough
+lots were evaluated by other editions than Table 106-1's, and each row of a table was found inside a limit and outside, by
+one number of tries. With --stop it ends at the first that differs.
 """
 import argparse
 import collections
+import os
 import subprocess
 import sys
 import tempfile
@@ -27,21 +28,32 @@ KINDS = {
     "check": ("pay sheets checked", 100_000),
     "compare": ("pay sheets compared", 100_000),
     "mixture": ("mixture lookups", 200_000),
+    "lend": ("stores lent", 5_000),
+    "table": ("tables written", 100),
+    "sequence": ("sequences over a store", 20_000),
 }
+# How many lots have to be evaluated by editions of another shape than Table 106-1's.
+BY_OTHERS = 200_000
 SHOWN = 5
+CLIPPED = 400
 
 
 def clipped(text):
-    return text if len(text) <= 400 else f"{text[:400]}... ({len(text):,} characters)"
+    return text if len(text) <= CLIPPED else f"{text[:CLIPPED]}... ({len(text):,} characters)"
 
 
-def show(call, library, second):
-    print(f"call    {clipped(call)}\nlibrary {clipped(library)}\nsecond  {clipped(second)}")
+def show(lent, call, library, second):
+    """Both answers, the store that was lent last, and the first difference where it is too far on to be seen."""
+    print(f"store   {clipped(lent)}\ncall    {clipped(call)}\nlibrary {clipped(library)}\nsecond  {clipped(second)}")
+    place = len(os.path.commonprefix((library, second)))
+    if place >= CLIPPED:
+        ours, theirs = (text[place - 20 : place + 20] for text in (library, second))
+        print(f"at character {place} the library has {ours}, the second {theirs}")
 
 
 def compare(asked, answers, stop):
     """How many calls of each kind were compared and how many differ, and whether the answers stopped short."""
-    compared, differ = collections.Counter(), collections.Counter()
+    compared, differ, lent = collections.Counter(), collections.Counter(), "none"
     for call in asked:
         if stop and differ:
             break
@@ -49,13 +61,14 @@ def compare(asked, answers, stop):
         if not library.endswith("\n"):
             print(f"the library's answers stop at call {compared.total() + 1:,}: {clipped(call.rstrip())}")
             return compared, differ, True
-        kind = call.split(maxsplit=1)[0]
+        kind, rest = call.rstrip().split(maxsplit=1)
+        lent = rest if kind == "lend" else lent
         second = papers.answer(call)
         compared[kind] += 1
         if library.rstrip("\n") != second:
             differ[kind] += 1
             if differ[kind] <= SHOWN:
-                show(call.rstrip(), library.rstrip(), second)
+                show(lent, call.rstrip(), library.rstrip(), second)
     return compared, differ, False
 
 
@@ -67,6 +80,15 @@ def every_row_was_found():
         rows = [row for row, tried in sorted(tries) if tried == number]
         print(f"rows found by {number} tries, {len(rows)}: {' '.join(map(str, rows))}")
     return len(found) == 2 * len(tries) == 2 * (papers.LAST + 1)
+
+
+def editions_were_many():
+    """Reports what was done with editions; whether enough lots were evaluated by others than Table 106-1's, in stores of each size."""
+    print("steps in these sequences:", ", ".join(f"{step} {times:,}" for step, times in sorted(papers.STEPPED.items())))
+    others = {key: times for key, times in papers.EVALUATED.items() if key[1:] != (min(papers.TABLE), max(papers.TABLE))}
+    sizes, shapes, times = {many for many, *_ in others}, {key[1:] for key in others}, sum(others.values())
+    print(f"lots evaluated by editions of {len(shapes)} shapes other than Table 106-1's: {times:,}")
+    return times >= BY_OTHERS and sizes == set(range(1, papers.MOST_EDITIONS + 1))
 
 
 def main():
@@ -98,6 +120,9 @@ def main():
         if compared[kind] < least:
             print(f"  too few: at least {least:,} are to be compared")
             failed = True
+    if not editions_were_many():
+        print(f"  at least {BY_OTHERS:,} are to be, and in stores of one edition to {papers.MOST_EDITIONS}")
+        failed = True
     if not every_row_was_found():
         print("  each row is to be found inside a limit and outside, by one number of tries")
         failed = True

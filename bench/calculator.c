@@ -2,15 +2,19 @@
 
 #include "plain.h"
 
-static struct tulpavice_percentages no_evaluate(const int32_t *readings, size_t count, int32_t upper,
+static struct tulpavice_percentages no_evaluate(const uint8_t *store, size_t store_size, uint32_t edition,
+                                                const int32_t *readings, size_t count, int32_t upper,
                                                 uint32_t upper_present, int32_t lower, uint32_t lower_present)
 {
+    (void)store, (void)store_size, (void)edition;
     (void)readings, (void)count, (void)upper, (void)upper_present, (void)lower, (void)lower_present;
     return (struct tulpavice_percentages){0};
 }
 
-static struct tulpavice_percentages no_evaluate_lot(struct tulpavice_lot lot)
+static struct tulpavice_percentages no_evaluate_lot(const uint8_t *store, size_t store_size, uint32_t edition,
+                                                    struct tulpavice_lot lot)
 {
+    (void)store, (void)store_size, (void)edition;
     (void)lot;
     return (struct tulpavice_percentages){0};
 }
@@ -51,9 +55,11 @@ static struct tulpavice_deviation no_deviation(const int32_t *readings, size_t c
     return (struct tulpavice_deviation){0};
 }
 
-static struct tulpavice_row no_row(const uint8_t *readings, size_t size, int32_t upper, uint32_t upper_present,
-                                   int32_t lower, uint32_t lower_present)
+static struct tulpavice_row no_row(const uint8_t *store, size_t store_size, uint32_t edition, const uint8_t *readings,
+                                   size_t size, int32_t upper, uint32_t upper_present, int32_t lower,
+                                   uint32_t lower_present)
 {
+    (void)store, (void)store_size, (void)edition;
     (void)readings, (void)size, (void)upper, (void)upper_present, (void)lower, (void)lower_present;
     return (struct tulpavice_row){0};
 }
@@ -64,10 +70,12 @@ static struct tulpavice_listed no_cut(size_t sublots, uint32_t *out, size_t room
     return (struct tulpavice_listed){0};
 }
 
-static struct tulpavice_checked no_check(struct tulpavice_lot vma, struct tulpavice_lot voids,
+static struct tulpavice_checked no_check(const uint8_t *store, size_t store_size, uint32_t edition,
+                                         struct tulpavice_lot vma, struct tulpavice_lot voids,
                                          struct tulpavice_lot density, int64_t price, int64_t quantity,
                                          struct tulpavice_sheet sheet)
 {
+    (void)store, (void)store_size, (void)edition;
     (void)vma, (void)voids, (void)density, (void)price, (void)quantity, (void)sheet;
     return (struct tulpavice_checked){0};
 }
@@ -79,15 +87,40 @@ static struct tulpavice_listed no_compare(struct tulpavice_sheet first, struct t
     return (struct tulpavice_listed){0};
 }
 
+static struct tulpavice_written no_table_106_1(uint16_t number, uint8_t *out, size_t room)
+{
+    (void)number, (void)out, (void)room;
+    return (struct tulpavice_written){0};
+}
+
+static struct tulpavice_place no_store(uint8_t *store, size_t store_size, const uint8_t *edition, size_t size)
+{
+    (void)store, (void)store_size, (void)edition, (void)size;
+    return (struct tulpavice_place){0};
+}
+
+static struct tulpavice_place no_find(const uint8_t *store, size_t store_size, uint32_t edition)
+{
+    (void)store, (void)store_size, (void)edition;
+    return (struct tulpavice_place){0};
+}
+
+static struct tulpavice_listed no_list(const uint8_t *store, size_t store_size, uint32_t *out, size_t room)
+{
+    (void)store, (void)store_size, (void)out, (void)room;
+    return (struct tulpavice_listed){0};
+}
+
 const struct calculator library = {"library", tulpavice_evaluate, tulpavice_evaluate_lot, tulpavice_read,
                                    tulpavice_write, tulpavice_pay, tulpavice_mixture, tulpavice_mean,
                                    tulpavice_deviation, tulpavice_row, tulpavice_cut, tulpavice_check,
-                                   tulpavice_compare};
+                                   tulpavice_compare, tulpavice_table_106_1, tulpavice_store, tulpavice_find,
+                                   tulpavice_list};
 
 const struct calculator plain = {"plain", plain_evaluate, plain_evaluate_lot, plain_read, plain_write, plain_pay,
                                  plain_mixture, plain_mean, plain_deviation, plain_row, plain_cut, plain_check,
-                                 plain_compare};
+                                 plain_compare, plain_table_106_1, plain_store, plain_find, plain_list};
 
 const struct calculator nothing = {"nothing", no_evaluate, no_evaluate_lot, no_read, no_write, no_pay,
                                    no_mixture, no_mean, no_deviation, no_row, no_cut, no_check,
-                                   no_compare};
+                                   no_compare, no_table_106_1, no_store, no_find, no_list};

@@ -151,10 +151,15 @@ static struct tulpavice_lot lot_of_sheet(void)
     return lot;
 }
 
-static struct tulpavice_sheet right_sheet(const struct claim *claim)
+static int64_t right_pwl(const struct store *store, struct tulpavice_lot lot)
 {
-    int64_t vma = plain_evaluate_lot(claim->vma).pwl, voids = plain_evaluate_lot(claim->voids).pwl,
-            density = plain_evaluate_lot(claim->density).pwl;
+    return plain_evaluate_lot(store->bytes, store->size, 1, lot).pwl;
+}
+
+static struct tulpavice_sheet right_sheet(const struct store *store, const struct claim *claim)
+{
+    int64_t vma = right_pwl(store, claim->vma), voids = right_pwl(store, claim->voids),
+            density = right_pwl(store, claim->density);
     struct tulpavice_payment paid = plain_pay(vma, voids, density, claim->price, claim->quantity);
     return (struct tulpavice_sheet){vma, voids, density, paid.composite, paid.lot, paid.pay};
 }
@@ -176,11 +181,11 @@ static void inflate(struct tulpavice_sheet *sheet)
 }
 
 /* One sheet in two is right, and is compared with one that is not. */
-static struct claim claim_of_job(void)
+static struct claim claim_of_job(const struct store *store)
 {
     struct claim claim = {.vma = lot_of_sheet(), .voids = lot_of_sheet(), .density = lot_of_sheet(),
                           .price = between(5000, 15000), .quantity = between(10000, 2000000), .room = DIFFERENCES};
-    claim.sheet = claim.other = right_sheet(&claim);
+    claim.sheet = claim.other = right_sheet(store, &claim);
     inflate(one_in(2) ? &claim.sheet : &claim.other);
     if (one_in(ONE_REFUSED_IN))
         spoil_lot(&claim.density);
@@ -191,10 +196,20 @@ static struct claim claim_of_job(void)
     return claim;
 }
 
+static struct store store_of(uint16_t editions)
+{
+    struct store store = {.size = 0};
+    for (uint16_t number = 1; number <= editions; number++)
+        store.size += plain_table_106_1(number, store.bytes + store.size, sizeof store.bytes - store.size).size;
+    return store;
+}
+
 void make_inputs(struct inputs *inputs, size_t number)
 {
     state = 106;
     inputs->number = number;
+    inputs->one = store_of(1);
+    inputs->eight = store_of(TULPAVICE_MOST_EDITIONS);
     for (size_t i = 0; i < number; i++) {
         inputs->lots[i] = lot_of_job();
         if (one_in(ONE_REFUSED_IN))
@@ -207,7 +222,11 @@ void make_inputs(struct inputs *inputs, size_t number)
         if (one_in(ONE_REFUSED_IN))
             inputs->lookups[i].mixture = 4;
         inputs->jobs[i] = job_to_cut();
+        inputs->editions_of_one[i] = one_in(ONE_REFUSED_IN) ? 2 : 1;
+        inputs->editions[i] = (uint32_t)between(1, TULPAVICE_MOST_EDITIONS) + (one_in(ONE_REFUSED_IN) ? 100 : 0);
+        inputs->lists[i] = one_in(ONE_REFUSED_IN) ? TULPAVICE_MOST_EDITIONS - 1 : NUMBERS;
+        inputs->tables[i] = one_in(ONE_REFUSED_IN) ? TULPAVICE_TABLE_106_1_BYTES - 1 : TABLE_ROOM;
     }
     for (size_t i = 0; i < number; i++)
-        inputs->claims[i] = claim_of_job();
+        inputs->claims[i] = claim_of_job(&inputs->one);
 }

@@ -10,7 +10,15 @@ enum {
     PAST = 8,
     ROOM = TULPAVICE_MOST_BYTES + PAST,
     LIST = 2 * TULPAVICE_MOST_LOTS + PAST,
-    DIFFERENCES = 2 * TULPAVICE_ENTRIES + PAST
+    DIFFERENCES = 2 * TULPAVICE_ENTRIES + PAST,
+    TABLE_ROOM = TULPAVICE_TABLE_106_1_BYTES + PAST,
+    NUMBERS = TULPAVICE_MOST_EDITIONS + PAST
+};
+
+/* Table 106-1 so many times, under the numbers from 1 on, and room for bytes behind it. */
+struct store {
+    uint8_t bytes[TULPAVICE_MOST_EDITIONS * TULPAVICE_TABLE_106_1_BYTES + PAST];
+    size_t size;
 };
 
 struct record {
@@ -49,10 +57,16 @@ struct claim {
     size_t room;
 };
 
-/* So many of each. A lot is evaluated from its places, as a whole and from its readings as bytes, and written into so
-   much room. */
+/* So many of each. A lot is evaluated from its places, as a whole and from its readings as bytes, by an edition that is
+   named in a store of one and in a store of eight, and written into so much room. */
 struct inputs {
     size_t number;
+    struct store one;
+    struct store eight;
+    uint32_t editions_of_one[MOST_INPUTS];
+    uint32_t editions[MOST_INPUTS];
+    size_t lists[MOST_INPUTS];
+    size_t tables[MOST_INPUTS];
     struct tulpavice_lot lots[MOST_INPUTS];
     uint8_t bytes[MOST_INPUTS][4 * TULPAVICE_MOST];
     size_t rooms[MOST_INPUTS];

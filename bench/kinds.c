@@ -32,15 +32,28 @@
 CALL(evaluate, struct tulpavice_percentages)
 {
     const struct tulpavice_lot *lot = &inputs->lots[i];
-    return who->evaluate(lot->readings, lot->count, lot->upper, lot->upper_present, lot->lower, lot->lower_present);
+    return who->evaluate(inputs->one.bytes, inputs->one.size, inputs->editions_of_one[i], lot->readings, lot->count,
+                         lot->upper, lot->upper_present, lot->lower, lot->lower_present);
 }
 LOOP(evaluate, struct tulpavice_percentages,
      a.refusal.number + a.upper + a.lower + a.pwl + a.tried_upper + a.tried_lower)
 ANSWER(evaluate, struct tulpavice_percentages, a.refusal.number, a.upper, a.lower, a.pwl, a.tried_upper, a.tried_lower)
 
+/* The same, by one of eight editions. */
+CALL(evaluate_of_8, struct tulpavice_percentages)
+{
+    const struct tulpavice_lot *lot = &inputs->lots[i];
+    return who->evaluate(inputs->eight.bytes, inputs->eight.size, inputs->editions[i], lot->readings, lot->count,
+                         lot->upper, lot->upper_present, lot->lower, lot->lower_present);
+}
+LOOP(evaluate_of_8, struct tulpavice_percentages,
+     a.refusal.number + a.upper + a.lower + a.pwl + a.tried_upper + a.tried_lower)
+ANSWER(evaluate_of_8, struct tulpavice_percentages, a.refusal.number, a.upper, a.lower, a.pwl, a.tried_upper,
+       a.tried_lower)
+
 CALL(evaluate_lot, struct tulpavice_percentages)
 {
-    return who->evaluate_lot(inputs->lots[i]);
+    return who->evaluate_lot(inputs->one.bytes, inputs->one.size, inputs->editions_of_one[i], inputs->lots[i]);
 }
 LOOP(evaluate_lot, struct tulpavice_percentages,
      a.refusal.number + a.upper + a.lower + a.pwl + a.tried_upper + a.tried_lower)
@@ -110,7 +123,8 @@ static size_t answer_cut(const struct calculator *who, const struct inputs *inpu
 CALL(check, struct tulpavice_checked)
 {
     const struct claim *claim = &inputs->claims[i];
-    return who->check(claim->vma, claim->voids, claim->density, claim->price, claim->quantity, claim->sheet);
+    return who->check(inputs->one.bytes, inputs->one.size, inputs->editions_of_one[i], claim->vma, claim->voids,
+                      claim->density, claim->price, claim->quantity, claim->sheet);
 }
 LOOP(check, struct tulpavice_checked, a.refusal.number + a.accepted + a.entry + a.sheet + a.ours)
 ANSWER(check, struct tulpavice_checked, a.refusal.number, a.accepted, a.entry, a.sheet, a.ours)
@@ -168,7 +182,8 @@ ANSWER(deviation, struct tulpavice_deviation, a.refusal.number, a.deviation)
 CALL(row, struct tulpavice_row)
 {
     const struct tulpavice_lot *lot = &inputs->lots[i];
-    return who->row(inputs->bytes[i], 4 * lot->count, lot->upper, lot->upper_present, lot->lower, lot->lower_present);
+    return who->row(inputs->one.bytes, inputs->one.size, inputs->editions_of_one[i], inputs->bytes[i], 4 * lot->count,
+                    lot->upper, lot->upper_present, lot->lower, lot->lower_present);
 }
 
 /* A double by its bits. */
@@ -182,6 +197,74 @@ static int64_t bits(double value)
 LOOP(row, struct tulpavice_row,
      a.refusal.number + (uint64_t)bits(a.mean) + (uint64_t)bits(a.deviation) + (uint64_t)bits(a.pwl))
 ANSWER(row, struct tulpavice_row, a.refusal.number, bits(a.mean), bits(a.deviation), bits(a.pwl))
+
+static uint8_t edition[TABLE_ROOM];
+
+CALL(table_106_1, struct tulpavice_written)
+{
+    return who->table_106_1((uint16_t)inputs->editions[i], edition, inputs->tables[i]);
+}
+LOOP(table_106_1, struct tulpavice_written, a.refusal.number + a.size + (a.refusal.number ? 0 : edition[a.size / 2]))
+
+static size_t answer_table_106_1(const struct calculator *who, const struct inputs *inputs, size_t i, int64_t *taken)
+{
+    memset(edition, 0xA5, sizeof edition);
+    struct tulpavice_written a = call_table_106_1(who, inputs, i);
+    taken[0] = a.refusal.number;
+    taken[1] = (int64_t)a.size;
+    for (size_t j = 0; j < sizeof edition; j++)
+        taken[2 + j] = edition[j];
+    return 2 + sizeof edition;
+}
+
+static uint8_t stored[2 * TABLE_ROOM];
+
+/* A second edition into a store of one: what the call before this one stored is taken out again, by a zero length. */
+CALL(store, struct tulpavice_place)
+{
+    const uint8_t *second = inputs->eight.bytes + (inputs->editions_of_one[i] == 1 ? TULPAVICE_TABLE_106_1_BYTES : 0);
+    stored[TULPAVICE_TABLE_106_1_BYTES] = stored[TULPAVICE_TABLE_106_1_BYTES + 1] = 0;
+    memcpy(stored, inputs->one.bytes, TULPAVICE_TABLE_106_1_BYTES);
+    return who->store(stored, sizeof stored, second, TULPAVICE_TABLE_106_1_BYTES);
+}
+LOOP(store, struct tulpavice_place, a.refusal.number + a.start)
+
+static size_t answer_store(const struct calculator *who, const struct inputs *inputs, size_t i, int64_t *taken)
+{
+    memset(stored, 0xA5, sizeof stored);
+    struct tulpavice_place a = call_store(who, inputs, i);
+    taken[0] = a.refusal.number;
+    taken[1] = (int64_t)a.start;
+    for (size_t j = 0; j < sizeof stored; j++)
+        taken[2 + j] = stored[j];
+    return 2 + sizeof stored;
+}
+
+CALL(find, struct tulpavice_place)
+{
+    return who->find(inputs->eight.bytes, inputs->eight.size, inputs->editions[i]);
+}
+LOOP(find, struct tulpavice_place, a.refusal.number + a.start)
+ANSWER(find, struct tulpavice_place, a.refusal.number, (int64_t)a.start)
+
+static uint32_t numbers_listed[NUMBERS];
+
+CALL(list, struct tulpavice_listed)
+{
+    return who->list(inputs->eight.bytes, inputs->eight.size, numbers_listed, inputs->lists[i]);
+}
+LOOP(list, struct tulpavice_listed, a.refusal.number + a.items + (a.items ? numbers_listed[a.items - 1] : 0))
+
+static size_t answer_list(const struct calculator *who, const struct inputs *inputs, size_t i, int64_t *taken)
+{
+    memset(numbers_listed, 0xA5, sizeof numbers_listed);
+    struct tulpavice_listed a = call_list(who, inputs, i);
+    taken[0] = a.refusal.number;
+    taken[1] = (int64_t)a.items;
+    for (size_t j = 0; j < NUMBERS; j++)
+        taken[2 + j] = numbers_listed[j];
+    return 2 + NUMBERS;
+}
 
 static void show_held(const struct tulpavice_lot *lot)
 {
@@ -243,14 +326,25 @@ static void show_claim(const struct inputs *inputs, size_t i)
     show_held(&claim->density);
 }
 
+static void show_edition(const struct inputs *inputs, size_t i)
+{
+    printf("edition %" PRIu32 " of one, %" PRIu32 " of eight, room %zu", inputs->editions_of_one[i], inputs->editions[i],
+           inputs->lists[i]);
+}
+
 #define KIND(NAME, SHOW, CALLS) {#NAME, run_##NAME, answer_##NAME, SHOW, CALLS}
 
-/* The deviation's search from zero is slow by design: a turn has fewer of it. */
-enum { CALLS = 512, SLOW_CALLS = CALLS / 32 };
+/* The deviation's search from zero is slow by design, and a store is looked at whole: a turn has fewer of these. */
+enum { CALLS = 512, FEW_CALLS = CALLS / 8, SLOW_CALLS = CALLS / 32 };
 
 const struct kind kinds[KINDS] = {
-    KIND(evaluate, show_lot, CALLS), KIND(evaluate_lot, show_lot, CALLS), KIND(read, show_record, CALLS),
-    KIND(write, show_lot, CALLS),    KIND(pay, show_sale, CALLS),         KIND(mixture, show_lookup, CALLS),
-    KIND(mean, show_lot, CALLS),     KIND(deviation, show_lot, SLOW_CALLS), KIND(row, show_lot, SLOW_CALLS),
-    KIND(cut, show_job, CALLS),      KIND(check, show_claim, CALLS),      KIND(compare, show_claim, CALLS),
+    KIND(evaluate, show_lot, FEW_CALLS),     KIND(evaluate_of_8, show_lot, SLOW_CALLS),
+    KIND(evaluate_lot, show_lot, FEW_CALLS), KIND(read, show_record, CALLS),
+    KIND(write, show_lot, CALLS),            KIND(pay, show_sale, CALLS),
+    KIND(mixture, show_lookup, CALLS),       KIND(mean, show_lot, CALLS),
+    KIND(deviation, show_lot, SLOW_CALLS),   KIND(row, show_lot, SLOW_CALLS),
+    KIND(cut, show_job, CALLS),              KIND(check, show_claim, FEW_CALLS),
+    KIND(compare, show_claim, CALLS),        KIND(table_106_1, show_edition, CALLS),
+    KIND(store, show_edition, FEW_CALLS),    KIND(find, show_edition, SLOW_CALLS),
+    KIND(list, show_edition, SLOW_CALLS),
 };

@@ -5,8 +5,8 @@
 #include "calculator.h"
 #include "inputs.h"
 
-/* A job's list has more than any other answer. */
-enum { MOST_NUMBERS = 2 + LIST };
+/* A store that another edition went into has more than any other answer. */
+enum { MOST_NUMBERS = 2 + 2 * TABLE_ROOM };
 
 struct kind {
     const char *name;
@@ -18,7 +18,7 @@ struct kind {
     size_t calls_a_turn;
 };
 
-enum { KINDS = 12 };
+enum { KINDS = 17 };
 
 extern const struct kind kinds[KINDS];
 

@@ -3,11 +3,12 @@
 #include "plain.h"
 
 #include <stdbool.h>
+#include <string.h>
 
 #include "table.h"
 
 enum { FEWEST = 2, FARTHEST = 500000, WHOLE = 10000, LAST_ROW = 53, HEAD = 13, WHOLE_LOT = 10, MOST_JOINED = 7 };
-enum { LAST_COLUMN = FEWEST + sizeof TABLE / sizeof *TABLE - 1 };
+enum { LEAST_ENTRY = 5000, EDITION_HEAD = 7, COLUMN = 2 * (LAST_ROW + 1) };
 
 struct totals {
     int64_t n;
@@ -44,6 +45,72 @@ static uint32_t total(const int32_t *readings, size_t count, struct totals *a)
     return 0;
 }
 
+static unsigned two(const uint8_t *bytes)
+{
+    return (unsigned)bytes[0] << 8 | bytes[1];
+}
+
+/* It starts at 5,000, never falls and ends at 10,000. */
+static bool is_column(const uint8_t *column)
+{
+    unsigned before = LEAST_ENTRY;
+    if (two(column) != LEAST_ENTRY)
+        return false;
+    for (size_t i = 2; i < COLUMN; i += 2) {
+        unsigned entry = two(column + i);
+        if (entry < before)
+            return false;
+        before = entry;
+    }
+    return before == WHOLE;
+}
+
+static bool is_edition(const uint8_t *entry, size_t size)
+{
+    if (size < EDITION_HEAD)
+        return false;
+    size_t first = entry[5], last = entry[6];
+    if (two(entry) != size - 2 || entry[2] != 1 || first < FEWEST || last > TULPAVICE_MOST || first > last ||
+        size != TULPAVICE_EDITION_BYTES(last + 1 - first))
+        return false;
+    for (size_t at = EDITION_HEAD; at < size; at += COLUMN) {
+        if (!is_column(entry + at))
+            return false;
+    }
+    return true;
+}
+
+/* A store: the place where it ends, how many editions it has, the least number that another may have, and the edition
+   that is named, or NULL where it has none. */
+struct editions {
+    size_t end;
+    size_t count;
+    uint32_t least;
+    const uint8_t *named;
+};
+
+/* One pass over a store; whether it is one. */
+static bool walk(const uint8_t *store, size_t size, uint32_t edition, struct editions *found)
+{
+    struct editions a = {0, 0, 0, NULL};
+    while (size - a.end >= 2 && two(store + a.end) != 0) {
+        const uint8_t *entry = store + a.end;
+        size_t entry_size = 2 + two(entry);
+        if (a.count == TULPAVICE_MOST_EDITIONS || entry_size > size - a.end || !is_edition(entry, entry_size))
+            return false;
+        uint32_t number = two(entry + 3);
+        if (number < a.least)
+            return false;
+        if (number == edition)
+            a.named = entry;
+        a.least = number + 1;
+        a.count++;
+        a.end += entry_size;
+    }
+    *found = a;
+    return true;
+}
+
 /* What two limits that are in range can still meet: 6 and 7. */
 static uint32_t limits_refused(int32_t upper, bool has_upper, int32_t lower, bool has_lower)
 {
@@ -54,25 +121,37 @@ static uint32_t limits_refused(int32_t upper, bool has_upper, int32_t lower, boo
     return 0;
 }
 
-/* What a percentage of readings in range can still meet: 5 for a limit, then 6, 7 and 10. */
-static uint32_t lookup_refused(int64_t n, int32_t upper, bool has_upper, int32_t lower, bool has_lower)
+/* What a percentage of readings in range can still meet: 5 for a limit, then 6, 7, 13 and 10. */
+static uint32_t lookup_refused(const uint8_t *edition, int64_t n, int32_t upper, bool has_upper, int32_t lower,
+                               bool has_lower)
 {
     if ((has_upper && out_of_range(upper)) || (has_lower && out_of_range(lower)))
         return 5;
     uint32_t refusal = limits_refused(upper, has_upper, lower, has_lower);
-    if (refusal == 0 && n > LAST_COLUMN)
-        refusal = 10;
-    return refusal;
+    if (refusal != 0)
+        return refusal;
+    if (!edition)
+        return 13;
+    if (n < edition[5] || n > edition[6])
+        return 10;
+    return 0;
 }
 
-/* The largest k from 0 to 53 with k = 0 or (2k-1)^2 nV <= 1600 (n-1) D^2, and how many were tried. */
-static unsigned row(int64_t nv, int64_t reach, uint32_t *tried)
+/* Of an edition that has one, the column for n. */
+static const uint8_t *column_for(const uint8_t *edition, int64_t n)
+{
+    return edition + EDITION_HEAD + COLUMN * (n - edition[5]);
+}
+
+/* The largest k from 0 to 53 with k = 0 or (2k-1)^2 nV <= 1600 (n-1) D^2, and how many were tried. The widest readings
+   take all 64 bits. */
+static unsigned row(uint64_t nv, uint64_t reach, uint32_t *tried)
 {
     unsigned low = 0, high = LAST_ROW;
     uint32_t tries = 0;
     while (low < high) {
         unsigned middle = (low + high + 1) / 2;
-        int64_t odd = 2 * middle - 1;
+        uint64_t odd = 2 * middle - 1;
         tries++;
         if (odd * odd * nv <= reach)
             low = middle;
@@ -84,36 +163,48 @@ static unsigned row(int64_t nv, int64_t reach, uint32_t *tried)
 }
 
 /* Where no row is tried, `tried` is left as it is. */
-static int64_t side(const struct totals *a, int64_t d, uint32_t *tried)
+static int64_t side(const uint8_t *column, const struct totals *a, int64_t d, uint32_t *tried)
 {
     int64_t entry = WHOLE;
     if (a->v != 0)
-        entry = TABLE[a->n - FEWEST][row(a->n * a->v, 1600 * (a->n - 1) * d * d, tried)];
+        entry = two(column + 2 * row((uint64_t)(a->n * a->v), (uint64_t)(1600 * (a->n - 1) * d * d), tried));
     return d < 0 ? WHOLE - entry : entry;
 }
 
-struct tulpavice_percentages plain_evaluate(const int32_t *readings, size_t count, int32_t upper,
-                                            uint32_t upper_present, int32_t lower, uint32_t lower_present)
+/* By an edition, or NULL where none is found. */
+static struct tulpavice_percentages evaluate(const uint8_t *edition, const int32_t *readings, size_t count,
+                                             int32_t upper, bool has_upper, int32_t lower, bool has_lower)
 {
     struct tulpavice_percentages answer = {0};
     struct totals a;
     answer.refusal.number = total(readings, count, &a);
     if (answer.refusal.number == 0)
-        answer.refusal.number = lookup_refused(a.n, upper, upper_present, lower, lower_present);
+        answer.refusal.number = lookup_refused(edition, a.n, upper, has_upper, lower, has_lower);
     if (answer.refusal.number != 0)
         return answer;
-    answer.upper = upper_present ? side(&a, a.n * upper - a.t, &answer.tried_upper) : WHOLE;
-    answer.lower = lower_present ? side(&a, a.t - a.n * lower, &answer.tried_lower) : WHOLE;
+    const uint8_t *column = column_for(edition, a.n);
+    answer.upper = has_upper ? side(column, &a, a.n * upper - a.t, &answer.tried_upper) : WHOLE;
+    answer.lower = has_lower ? side(column, &a, a.t - a.n * lower, &answer.tried_lower) : WHOLE;
     answer.pwl = answer.upper + answer.lower - WHOLE;
     return answer;
 }
 
-static struct tulpavice_percentages evaluate(const struct tulpavice_lot *lot)
+struct tulpavice_percentages plain_evaluate(const uint8_t *store, size_t store_size, uint32_t edition,
+                                            const int32_t *readings, size_t count, int32_t upper,
+                                            uint32_t upper_present, int32_t lower, uint32_t lower_present)
 {
-    return plain_evaluate(lot->readings, lot->count, lot->upper, lot->upper_present, lot->lower, lot->lower_present);
+    struct editions found;
+    if (!walk(store, store_size, edition, &found))
+        return (struct tulpavice_percentages){.refusal.number = 11};
+    return evaluate(found.named, readings, count, upper, upper_present, lower, lower_present);
 }
 
-struct tulpavice_percentages plain_evaluate_lot(struct tulpavice_lot lot) { return evaluate(&lot); }
+struct tulpavice_percentages plain_evaluate_lot(const uint8_t *store, size_t store_size, uint32_t edition,
+                                                struct tulpavice_lot lot)
+{
+    return plain_evaluate(store, store_size, edition, lot.readings, lot.count, lot.upper, lot.upper_present, lot.lower,
+                          lot.lower_present);
+}
 
 struct tulpavice_mean plain_mean(const int32_t *readings, size_t count)
 {
@@ -314,18 +405,23 @@ static bool sheet_refused(const struct tulpavice_sheet *sheet)
            outside(sheet->composite, greatest) || outside(sheet->verdict, 1) || outside(sheet->pay, greatest);
 }
 
-/* The sheet that the rules give; the refusal, or 0 for none. */
-static uint32_t work_out(const struct tulpavice_lot *vma, const struct tulpavice_lot *voids,
+static struct tulpavice_percentages evaluate_lot(const uint8_t *edition, const struct tulpavice_lot *lot)
+{
+    return evaluate(edition, lot->readings, lot->count, lot->upper, lot->upper_present, lot->lower, lot->lower_present);
+}
+
+/* The sheet that the rules give by an edition; the refusal, or 0 for none. */
+static uint32_t work_out(const uint8_t *edition, const struct tulpavice_lot *vma, const struct tulpavice_lot *voids,
                          const struct tulpavice_lot *density, int64_t price, int64_t quantity,
                          struct tulpavice_sheet *sheet)
 {
-    struct tulpavice_percentages a = evaluate(vma);
+    struct tulpavice_percentages a = evaluate_lot(edition, vma);
     if (a.refusal.number != 0)
         return a.refusal.number;
-    struct tulpavice_percentages b = evaluate(voids);
+    struct tulpavice_percentages b = evaluate_lot(edition, voids);
     if (b.refusal.number != 0)
         return b.refusal.number;
-    struct tulpavice_percentages c = evaluate(density);
+    struct tulpavice_percentages c = evaluate_lot(edition, density);
     if (c.refusal.number != 0)
         return c.refusal.number;
     struct tulpavice_payment paid = plain_pay(a.pwl, b.pwl, c.pwl, price, quantity);
@@ -343,13 +439,18 @@ static void take_entries(const struct tulpavice_sheet *sheet, int64_t *entries)
     entries[5] = sheet->pay;
 }
 
-struct tulpavice_checked plain_check(struct tulpavice_lot vma, struct tulpavice_lot voids, struct tulpavice_lot density,
+struct tulpavice_checked plain_check(const uint8_t *store, size_t store_size, uint32_t edition,
+                                     struct tulpavice_lot vma, struct tulpavice_lot voids, struct tulpavice_lot density,
                                      int64_t price, int64_t quantity, struct tulpavice_sheet sheet)
 {
     struct tulpavice_checked answer = {0};
+    struct editions found;
     struct tulpavice_sheet right;
     int64_t ours[TULPAVICE_ENTRIES], theirs[TULPAVICE_ENTRIES];
-    answer.refusal.number = work_out(&vma, &voids, &density, price, quantity, &right);
+    if (!walk(store, store_size, edition, &found))
+        answer.refusal.number = 11;
+    else
+        answer.refusal.number = work_out(found.named, &vma, &voids, &density, price, quantity, &right);
     if (answer.refusal.number == 0 && sheet_refused(&sheet))
         answer.refusal.number = 9;
     if (answer.refusal.number != 0)
@@ -415,21 +516,81 @@ static uint32_t total_bytes(const uint8_t *bytes, size_t size, struct totals *a)
     return 0;
 }
 
-struct tulpavice_row plain_row(const uint8_t *bytes, size_t size, int32_t upper, uint32_t upper_present, int32_t lower,
+struct tulpavice_row plain_row(const uint8_t *store, size_t store_size, uint32_t edition, const uint8_t *bytes,
+                               size_t size, int32_t upper, uint32_t upper_present, int32_t lower,
                                uint32_t lower_present)
 {
     struct tulpavice_row answer = {0};
+    struct editions found;
     struct totals a;
-    answer.refusal.number = total_bytes(bytes, size, &a);
+    if (!walk(store, store_size, edition, &found))
+        answer.refusal.number = 11;
+    else
+        answer.refusal.number = total_bytes(bytes, size, &a);
     if (answer.refusal.number == 0)
-        answer.refusal.number = lookup_refused(a.n, upper, upper_present, lower, lower_present);
+        answer.refusal.number = lookup_refused(found.named, a.n, upper, upper_present, lower, lower_present);
     if (answer.refusal.number != 0)
         return answer;
+    const uint8_t *column = column_for(found.named, a.n);
     uint32_t tried; /* which the notebook does not show */
-    int64_t above = upper_present ? side(&a, a.n * upper - a.t, &tried) : WHOLE;
-    int64_t below = lower_present ? side(&a, a.t - a.n * lower, &tried) : WHOLE;
+    int64_t above = upper_present ? side(column, &a, a.n * upper - a.t, &tried) : WHOLE;
+    int64_t below = lower_present ? side(column, &a, a.t - a.n * lower, &tried) : WHOLE;
     answer.mean = (double)a.t / (double)(1000 * a.n);
     answer.deviation = (double)rounded_deviation(&a) / 1000;
     answer.pwl = (double)(above + below - WHOLE) / 100;
     return answer;
+}
+
+struct tulpavice_written plain_table_106_1(uint16_t number, uint8_t *out, size_t room)
+{
+    if (room < sizeof TABLE_106_1)
+        return (struct tulpavice_written){.refusal.number = 8};
+    memcpy(out, TABLE_106_1, sizeof TABLE_106_1);
+    out[3] = (uint8_t)(number >> 8);
+    out[4] = (uint8_t)number;
+    return (struct tulpavice_written){.size = sizeof TABLE_106_1};
+}
+
+struct tulpavice_place plain_store(uint8_t *store, size_t store_size, const uint8_t *edition, size_t size)
+{
+    struct tulpavice_place answer = {0};
+    struct editions found;
+    if (!walk(store, store_size, 0, &found) || !is_edition(edition, size))
+        answer.refusal.number = 11;
+    else if (two(edition + 3) < found.least)
+        answer.refusal.number = 12;
+    else if (found.count == TULPAVICE_MOST_EDITIONS || size > store_size - found.end)
+        answer.refusal.number = 8;
+    if (answer.refusal.number != 0)
+        return answer;
+    size_t end = found.end + size;
+    memcpy(store + found.end, edition, size);
+    if (store_size - end >= 2)
+        store[end] = store[end + 1] = 0;
+    answer.start = found.end;
+    return answer;
+}
+
+struct tulpavice_place plain_find(const uint8_t *store, size_t store_size, uint32_t edition)
+{
+    struct editions found;
+    if (!walk(store, store_size, edition, &found))
+        return (struct tulpavice_place){.refusal.number = 11};
+    if (!found.named)
+        return (struct tulpavice_place){.refusal.number = 13};
+    return (struct tulpavice_place){.start = (size_t)(found.named - store)};
+}
+
+struct tulpavice_listed plain_list(const uint8_t *store, size_t store_size, uint32_t *out, size_t room)
+{
+    struct editions found;
+    if (!walk(store, store_size, 0, &found))
+        return (struct tulpavice_listed){.refusal.number = 11};
+    if (room < found.count)
+        return (struct tulpavice_listed){.refusal.number = 8};
+    for (size_t i = 0; i < found.count; i++) {
+        out[i] = two(store + 3);
+        store += 2 + two(store);
+    }
+    return (struct tulpavice_listed){.items = found.count};
 }

@@ -4,16 +4,16 @@ import re
 from texts import plain_rattle
 
 HEADER, LAYOUT = "include/tulpavice.h", "hosts/layout.c"
-PLAIN = {"u8": "uint8_t", "i32": "int32_t", "u32": "uint32_t", "i64": "int64_t", "usize": "size_t", "f64": "double"}
+PLAIN = {"u8": "uint8_t", "u16": "uint16_t", "i32": "int32_t", "u32": "uint32_t", "i64": "int64_t", "usize": "size_t", "f64": "double"}
 # What C calls the places of a lot, and the numbers of a limit, of a pair of limits and of the rows tried for both sides, which stand there side by side.
 PLACES = {word: f"readings[{i}]" for i, word in enumerate((
     "first second third fourth fifth sixth seventh eighth ninth tenth eleventh twelfth thirteenth fourteenth fifteenth "
     "sixteenth seventeenth").split())}
 BESIDE = {"number": "", "presence": "_present", "lower": "_lower", "upper": "_upper"}
-WIDTH = {"uint8_t": 1, "int32_t": 4, "uint32_t": 4, "int64_t": 8, "size_t": 8, "double": 8}
+WIDTH = {"uint8_t": 1, "uint16_t": 2, "int32_t": 4, "uint32_t": 4, "int64_t": 8, "size_t": 8, "double": 8}
 # All that the header and the layout tell the preprocessor; a line more could make what is read here mean something else.
 TOLD = {
-    HEADER: r"""#(ifndef|define) TULPAVICE_H|#include <std(def|int)\.h>|#ifdef __cplusplus|#endif|#define TULPAVICE_(VERSION "[\d.]+"|(MOST(_SUBLOTS)?|ENTRIES) \d+|MOST_BYTES \(13 \+ 4 \* TULPAVICE_MOST\)|MOST_LOTS \(\(TULPAVICE_MOST_SUBLOTS \+ 2\) / 10\))""",
+    HEADER: r"""#(ifndef|define) TULPAVICE_H|#include <std(def|int)\.h>|#ifdef __cplusplus|#endif|#define TULPAVICE_(VERSION "[\d.]+"|(MOST(_SUBLOTS|_EDITIONS)?|ENTRIES) \d+|EDITION_BYTES\(columns\) \(7 \+ 108 \* \(columns\)\)|(TABLE_106_1|MOST_EDITION)_BYTES TULPAVICE_EDITION_BYTES\(\d+\)|MOST_BYTES \(13 \+ 4 \* TULPAVICE_MOST\)|MOST_LOTS \(\(TULPAVICE_MOST_SUBLOTS \+ 2\) / 10\))""",
     LAYOUT: r"""#include "tulpavice\.h"|#define (SIZE|AT)\([\w, ]*\) _Static_assert\(.*\)""",
 }
 # And what else stands there: types and calls, of which the functions below read all parts.

@@ -14,6 +14,7 @@ use Rattle.rules.specs.declared.MixtureAnswer.{MixtureAnswer}
 use Rattle.rules.specs.declared.ReadAnswer.{ReadAnswer}
 use Rattle.rules.specs.declared.WriteAnswer.{WriteAnswer}
 use Rattle.rules.specs.declared.ListAnswer.{ListAnswer}
+use Rattle.rules.specs.declared.PlaceAnswer.{PlaceAnswer}
 use Rattle.rules.specs.declared.Sheet.{Sheet}
 use Rattle.rules.specs.declared.SheetAnswer.{SheetAnswer}
 use Rattle.rules.specs.declared.CheckAnswer.{CheckAnswer}
@@ -22,10 +23,11 @@ use Rattle.rules.specs.declared.RowAnswer.{RowAnswer}
 use Rattle.rules.specs.Said.{Said, Case, checked}
 use Rattle.rules.specs.Lot.{Lot}
 use Rattle.rules.specs.Table.{Table}
-use Rattle.rules.specs.Answers.{totals-said, outcome-said, mean-said, deviation-said, evaluation-said, pay-said, mixture-said, read-said, write-said, list-said, sheet-said, check-said, row-said}
+use Rattle.rules.specs.Answers.{totals-said, outcome-said, mean-said, deviation-said, evaluation-said, pay-said, mixture-said, read-said, write-said, list-said, place-said, sheet-said, check-said, row-said}
 use Rattle.rules.specs.Entries.{mean-says, deviation-says, evaluation-says, pay-says, mixture-says, read-leaves, write-says, after-write, cut-says, after-cut, row-says}
 use Rattle.rules.specs.Check.{ours-says, check-says, compare-says, after-compare}
-use Rattle.laws.proofs.Answers.{totals-injective, outcome-injective, mean-injective, deviation-injective, evaluation-injective, pay-injective, mixture-injective, read-injective, write-injective, list-injective, sheet-injective, check-injective, row-injective}
+use Rattle.rules.specs.Editions.{storing-says, after-storing, finding-says, listing-says, after-listing, default-says, after-default}
+use Rattle.laws.proofs.Answers.{totals-injective, outcome-injective, mean-injective, deviation-injective, evaluation-injective, pay-injective, mixture-injective, read-injective, write-injective, list-injective, place-injective, sheet-injective, check-injective, row-injective}
 
 pub outcome-determined : (cases : List Case) (r q : Outcome) → outcome-said r ≡ checked cases → outcome-said q ≡ checked cases → r ≡ q
 outcome-determined cases r q e f = outcome-injective r q (e ∙ sym f)
@@ -91,3 +93,26 @@ mixture-determined mixture minimum target r q e f = mixture-injective r q (e ∙
 
 pub row-determined : (table : Table) (upper lower : Limit) (bs : List ℕ) (r q : RowAnswer) → row-said r ≡ row-says table upper lower bs → row-said q ≡ row-says table upper lower bs → r ≡ q
 row-determined table upper lower bs r q e f = row-injective r q (e ∙ sym f)
+
+-- of a store and an edition, with every byte of the store,
+pub storing-determined :
+    (s e : List ℕ) (r q : PlaceAnswer) (after other : List ℕ) →
+    (place-said r ≡ storing-says s e) × (after ≡ after-storing s e) → (place-said q ≡ storing-says s e) × (other ≡ after-storing s e) →
+    (r ≡ q) × (after ≡ other)
+storing-determined s e r q after other f g = (place-injective r q (f .0 ∙ sym (g .0)), f .1 ∙ sym (g .1))
+
+pub finding-determined : (s : List ℕ) (named : ℕ) (r q : PlaceAnswer) → place-said r ≡ finding-says s named → place-said q ≡ finding-says s named → r ≡ q
+finding-determined s named r q e f = place-injective r q (e ∙ sym f)
+
+pub listing-determined :
+    (s out : List ℕ) (r q : ListAnswer) (after other : List ℕ) →
+    (list-said r ≡ listing-says s out) × (after ≡ after-listing s out) → (list-said q ≡ listing-says s out) × (other ≡ after-listing s out) →
+    (r ≡ q) × (after ≡ other)
+listing-determined s out r q after other e f = (list-injective r q (e .0 ∙ sym (f .0)), e .1 ∙ sym (f .1))
+
+-- and of Table 106-1's edition under a number.
+pub default-determined :
+    (number : ℕ) (out : List ℕ) (r q : WriteAnswer) (after other : List ℕ) →
+    (write-said r ≡ default-says number out) × (after ≡ after-default number out) → (write-said q ≡ default-says number out) × (other ≡ after-default number out) →
+    (r ≡ q) × (after ≡ other)
+default-determined number out r q after other e f = (write-injective r q (e .0 ∙ sym (f .0)), e .1 ∙ sym (f .1))

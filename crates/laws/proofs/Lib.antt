@@ -97,3 +97,4 @@ pub mod RowAnswers
 pub mod TriedAnswers
 pub mod Desk
 pub mod DeskTried
+pub mod DeskEdition

@@ -8,7 +8,6 @@ use borrow.Author.Tests.{eq-eqb, lt-leb}
 use lib.Dec.{T, leb, eqb}
 use lib.IntN.{ℤ}
 use Rattle.rules.specs.declared.Limit.{Limit}
-use Rattle.rules.specs.declared.Percentages.{Percentages}
 use Rattle.rules.specs.declared.Sheet.{Sheet}
 use Rattle.rules.specs.declared.Refusal.{Refusal}
 use Rattle.rules.specs.declared.Refusal.the-variants.{NoColumn, Unsound, NoEdition}

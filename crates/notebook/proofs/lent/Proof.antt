@@ -1,7 +1,5 @@
 -- The store is looked at before the lot, and the column after it.
 use mathlib.Core.Path.{subst}
-use mathlib.Core.List.{List}
-use Prim.Native.Nat.{ℕ}
 use borrow.Author.Needs.{needs}
 use Rattle.rules.specs.declared.store.Named.{Named}
 use Rattle.rules.specs.Meets.{bytes-meet, row-meets}

@@ -9,7 +9,7 @@ use Rattle.rules.specs.declared.Limit.the-variants.{Absent, At}
 use Rattle.rules.specs.declared.Verdict.the-variants.{Accepted, Rejected}
 use Rattle.rules.specs.declared.Finding.{Finding}
 use Rattle.rules.specs.declared.Refusal.{Refusal}
-use Rattle.rules.specs.declared.Refusal.the-variants.{Size, Version, Flags, Count, Range, Unlimited, Crossed, Room, Number, NoColumn}
+use Rattle.rules.specs.declared.Refusal.the-variants.{Size, Version, Flags, Count, Range, Unlimited, Crossed, Room, Number, NoColumn, Unsound, NotRising, NoEdition}
 use Rattle.rules.specs.declared.host.HostRefusal.{HostRefusal}
 use Rattle.rules.specs.declared.host.HostLot.{HostLot}
 use Rattle.rules.specs.declared.host.HostPair.{HostPair}
@@ -20,7 +20,7 @@ use Rattle.rules.specs.Mixture.{density-pairs, mixture-limits}
 use Rattle.rules.specs.Refusals.{number-of}
 use Rattle.rules.specs.Notebook.{lent-limit}
 use Rattle.rules.specs.Entries.{read-says, read-leaves, beside, held}
-use Rattle.rules.specs.Host.{host-mean, host-deviation, host-percentages, host-payment, host-mixture-limits, held-lot, host-lot, host-read, host-written, host-listed}
+use Rattle.rules.specs.Host.{host-mean, host-deviation, host-percentages, host-payment, host-mixture-limits, held-lot, host-lot, host-read, host-written, host-listed, host-place}
 use Rattle.rules.specs.Sheet.{sheet-numbers}
 use Rattle.rules.specs.HostSheet.{held-sheet, host-checked}
 use Rattle.laws.specs.Desk.{at, asked}
@@ -158,6 +158,9 @@ written-is-given = (refl, refl)
 pub listed-is-given : (host-listed (refused Number) ≡ record { refusal = numbered 9; items = 0 }) × (host-listed (answers 409) ≡ record { refusal = numbered 0; items = 409 })
 listed-is-given = (refl, refl)
 
+pub place-is-given : (host-place (refused NoEdition) ≡ record { refusal = numbered 13; start = 0 }) × (host-place (answers 979) ≡ record { refusal = numbered 0; start = 979 })
+place-is-given = (refl, refl)
+
 -- The numbers of refusal, 0 for none.
 pub refusal-is-asked :
     (asked {A = ℕ} (refused Size) ≡ 1) ×
@@ -170,5 +173,8 @@ pub refusal-is-asked :
     (asked {A = ℕ} (refused Room) ≡ 8) ×
     (asked {A = ℕ} (refused Number) ≡ 9) ×
     (asked {A = ℕ} (refused NoColumn) ≡ 10) ×
+    (asked {A = ℕ} (refused Unsound) ≡ 11) ×
+    (asked {A = ℕ} (refused NotRising) ≡ 12) ×
+    (asked {A = ℕ} (refused NoEdition) ≡ 13) ×
     (asked {A = ℕ} (answers 7) ≡ 0)
-refusal-is-asked = (refl, refl, refl, refl, refl, refl, refl, refl, refl, refl, refl)
+refusal-is-asked = (refl, refl, refl, refl, refl, refl, refl, refl, refl, refl, refl, refl, refl, refl)

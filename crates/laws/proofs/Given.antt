@@ -20,6 +20,7 @@ use Rattle.rules.specs.declared.host.HostMixtureLimits.{HostMixtureLimits}
 use Rattle.rules.specs.declared.host.HostRead.{HostRead}
 use Rattle.rules.specs.declared.host.HostWritten.{HostWritten}
 use Rattle.rules.specs.declared.host.HostListed.{HostListed}
+use Rattle.rules.specs.declared.host.HostPlace.{HostPlace}
 use Rattle.rules.specs.declared.host.HostChecked.{HostChecked}
 use Rattle.rules.specs.declared.host.HostRow.{HostRow}
 use Rattle.rules.specs.Units.{thousandths}
@@ -27,7 +28,7 @@ use Rattle.rules.specs.Said.{Said, refused, answers}
 use Rattle.rules.specs.Lot.{Lot}
 use Rattle.rules.specs.Refusals.{number-of}
 use Rattle.rules.specs.Entries.{beside}
-use Rattle.rules.specs.Host.{refusal-part, no-refusal, host-refusal, host-mean, host-deviation, host-percentages, host-payment, host-mixture-limits, host-read, host-written, host-listed, host-row}
+use Rattle.rules.specs.Host.{refusal-part, no-refusal, host-refusal, host-mean, host-deviation, host-percentages, host-payment, host-mixture-limits, host-read, host-written, host-listed, host-place, host-row}
 use Rattle.rules.specs.HostSheet.{host-found, host-checked}
 use Rattle.laws.specs.Sheet.{given-finding}
 use Rattle.laws.specs.Given.{ZeroWhenAnswered, given-percentages, given-row-of}
@@ -91,6 +92,9 @@ zero-in-written = zero-if-answered host-written (λ (r : HostWritten). r .refusa
 pub zero-in-listed : (said : Said ℕ) (r : HostListed) → r ≡ host-listed said → ZeroWhenAnswered (r .refusal) said
 zero-in-listed = zero-if-answered host-listed (λ (r : HostListed). r .refusal) (λ r. refl) (λ a. refl)
 
+pub zero-in-place : (said : Said ℕ) (r : HostPlace) → r ≡ host-place said → ZeroWhenAnswered (r .refusal) said
+zero-in-place = zero-if-answered host-place (λ (r : HostPlace). r .refusal) (λ r. refl) (λ a. refl)
+
 pub zero-in-checked : (said : Said Finding) (r : HostChecked) → r ≡ host-checked said → ZeroWhenAnswered (r .refusal) said
 zero-in-checked = zero-if-answered host-checked (λ (r : HostChecked). r .refusal) (λ r. refl) checked-begins
 
@@ -136,6 +140,11 @@ pub listed-given : (said : Said ℕ) (r : HostListed) → r ≡ host-listed said
 listed-given said r e z =
     let h = given host-listed (λ (x : HostListed). x .refusal) (λ x. refl) (λ a. refl) said r e z in
     h .1 ∙ ap (λ (x : HostListed). answers (x .items)) (sym (h .2))
+
+pub place-given : (said : Said ℕ) (r : HostPlace) → r ≡ host-place said → r .refusal .number ≡ 0 → said ≡ answers (r .start)
+place-given said r e z =
+    let h = given host-place (λ (x : HostPlace). x .refusal) (λ x. refl) (λ a. refl) said r e z in
+    h .1 ∙ ap (λ (x : HostPlace). answers (x .start)) (sym (h .2))
 
 pub checked-given : (said : Said Finding) (r : HostChecked) → r ≡ host-checked said → r .refusal .number ≡ 0 → said ≡ answers (given-finding r)
 checked-given said r e z =

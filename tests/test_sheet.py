@@ -17,7 +17,7 @@ from building import ROOT
 from notebook import edition, LIMITS, notebook, READINGS, shown, STEEP, stored, TABLE
 
 sys.path.append(str(ROOT / "second"))
-from papers import differences, lot_of, our_sheet
+from papers import TABLE_106_1, differences, lot_of, our_sheet
 
 SHEET = {
     **{name.lower(): f"{LIMITS[name]} {READINGS[name]}" for name in READINGS},
@@ -244,7 +244,7 @@ class Second(unittest.TestCase):
         for entries in itertools.chain(*itertools.repeat([set(), *({entry} for entry in range(6)), None, None, None], 20)):
             lots, lines = zip(*(self.some_lot(rng) for _ in range(3)))
             price, quantity = rng.choice(((8_000, 800_000), (rng.randint(0, 10_000_000), rng.randint(0, 100_000_000))))
-            ours = our_sheet(lots, price, quantity)
+            ours = our_sheet(lots, TABLE_106_1, price, quantity)
             entries = set(rng.sample(range(6), rng.randint(2, 6))) if entries is None else entries
             theirs = [self.changed(rng, entry, number) if entry in entries else number for entry, number in enumerate(ours)]
             words = for_programs(theirs)

@@ -1,4 +1,6 @@
 // What document 01 asks to be run and compared, beside the examples marked D, which are proved.
+#![tactic(auto)]
+
 mod lots;
 mod mixtures;
 mod payments;

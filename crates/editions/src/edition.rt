@@ -5,10 +5,13 @@ ghost use Rattle.rules.specs.Table.{column_in, well_formed};
 ghost use Rattle.rules.specs.Edition.{first_field, edition_head, column_size, columns, column_of, each, accepted};
 
 use rules::MOST;
-use rules::store::{COLUMN_SIZE, EDITION_HEAD};
+// 54 rows to a column, two bytes to a row.
+pub const ROWS: usize = 54;
 
-// The rows of a column.
-const ROWS: usize = 54;
+pub const COLUMN: usize = 108;
+
+// The bytes before the columns.
+pub const HEAD: usize = 7;
 
 // The number that the two bytes from a place on spell. Inner: a caller keeps the place within the bytes.
 pub fn two(bytes: &[u8], at: usize) -> u16
@@ -43,7 +46,7 @@ fn columns(edition: &[u8], count: usize) -> bool
 {
     let mut i = 0;
     while i < count {
-        if !column(edition, EDITION_HEAD + COLUMN_SIZE * i) {
+        if !column(edition, HEAD + COLUMN * i) {
             return false;
         }
         i += 1;
@@ -55,7 +58,7 @@ fn columns(edition: &[u8], count: usize) -> bool
 pub fn accepted(edition: &[u8]) -> bool
     ensures { result ≡ accepted edition.now }
 {
-    if edition.len() < EDITION_HEAD {
+    if edition.len() < HEAD {
         return false;
     }
     let first = edition[5] as usize;
@@ -73,7 +76,7 @@ pub fn accepted(edition: &[u8]) -> bool
         return false;
     }
     let count = last + 1 - first;
-    if edition.len() != EDITION_HEAD + COLUMN_SIZE * count {
+    if edition.len() != HEAD + COLUMN * count {
         return false;
     }
     if two(edition, 0) as usize != edition.len() - 2 {

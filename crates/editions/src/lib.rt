@@ -1,4 +1,6 @@
 // A store of table editions in a lent buffer: which edition is named, where its columns stand, and storing, finding and listing editions.
+#![tactic(auto)]
+
 mod edition;
 mod storing;
 mod walk;
@@ -12,7 +14,7 @@ ghost use Rattle.rules.specs.Editions.{storing_says, after_storing, finding_says
 ghost use Rattle.laws.specs.StoreWalk.{named_says, EditionAt};
 
 use edition::two;
-use rules::store::{COLUMN_SIZE, EDITION_HEAD, Named, Walk};
+use rules::store::{Named, Walk};
 use rules::{ListAnswer, PlaceAnswer, Refusal};
 use storing::{room_for, write_at};
 use walk::whole;
@@ -46,7 +48,7 @@ pub fn column(store: &[u8], start: usize, n: usize) -> usize
     requires { EditionAt store.now start × (has_column (table_of (first_entry (drop start store.now)) n) ≡ true) }
     ensures { result ≡ start + column_place (first_field (first_entry (drop start store.now))) n }
 {
-    start + (EDITION_HEAD + COLUMN_SIZE * (n - store[start + 5] as usize))
+    start + (edition::HEAD + edition::COLUMN * (n - store[start + 5] as usize))
 }
 
 // An edition more, written where the store ends, and the place at which it starts.

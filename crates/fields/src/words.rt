@@ -10,7 +10,7 @@ use readings::pass;
 use rules::{MOST, Thousandths, Totals, TotalsAnswer};
 
 // What a walk says of some readings, their totals or a refusal; and the readings in their places, to be used only where none is out of range.
-#[derive(Drop)]
+#[derive(Clone, Copy)]
 pub struct Walked {
     pub said: TotalsAnswer,
     pub readings: [Thousandths; MOST],

@@ -1,4 +1,6 @@
 // Answers as the plain numbers that a host in C is given; and limits and lots from the numbers that it gives.
+#![tactic(auto)]
+
 pub mod lot;
 pub mod sheet;
 

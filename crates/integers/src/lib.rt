@@ -1,1 +1,2 @@
 // Laws of the integers only: nothing runs here.
+#![tactic(auto)]

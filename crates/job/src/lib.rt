@@ -1,4 +1,6 @@
 // A job cut into lots, as document 000 cuts it.
+#![tactic(auto)]
+
 ghost use Rattle.std.specs.Prelude.{◌≡◌, ◌++◌, ◌+◌, ◌*◌, ◌≤◌, ◌<◌, length, drop, set};
 ghost use Rattle.rules.specs.Job.{longest_job, cut, item_numbers};
 ghost use Rattle.rules.specs.Answers.{list_said};

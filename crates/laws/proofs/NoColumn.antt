@@ -72,6 +72,7 @@ among k [] = false
 among k (c ∷ cs) = eqb (number_of c.refusal) k || among k cs
 
 first_is_among : {r : Refusal} (cs : List Case) → First r cs → T (among (number_of r) cs)
+first_is_among {r = r} [] x' = elim x' [ ]
 first_is_among (c ∷ cs) (here on same) = rw (eq-eqb (number_of c.refusal) _ (ap number_of same)) tt
 first_is_among {r} (c ∷ cs) (later off f) = or_right (eqb (number_of c.refusal) (number_of r)) (among (number_of r) cs) (first_is_among cs f)
   where

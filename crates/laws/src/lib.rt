@@ -1,1 +1,2 @@
 // Theorems over the definitions of `rules` alone: no function stands here.
+#![tactic(auto)]

@@ -1,4 +1,6 @@
 // A lot: what it meets and, where it is not refused, its totals, by one walk over its readings.
+#![tactic(auto)]
+
 ghost use Rattle.std.specs.Prelude.{◌≡◌};
 ghost use Rattle.rules.specs.Said.{ruled};
 ghost use Rattle.rules.specs.Lot.{lot_of, plain, lot_in};

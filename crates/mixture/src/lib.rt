@@ -1,4 +1,6 @@
 // Limits by mixture, by document 000's Table 1.
+#![tactic(auto)]
+
 ghost use Rattle.std.specs.Prelude.{◌≡◌, false, ◌≤◌, pos, ◌+ℤ◌};
 ghost use Rattle.rules.specs.Mixture.{vma_pair, voids_pair, density_pair, limits};
 ghost use Rattle.rules.specs.Refusals.{pair_out};

@@ -1,4 +1,6 @@
 // The notebook's row: mean, deviation and PWL as doubles, of readings that come as bytes, by the edition that is named in a lent store.
+#![tactic(auto)]
+
 ghost use Rattle.std.specs.Prelude.{◌≡◌, false, ◌+◌, ◌*◌, ◌≤◌, pos, length, drop};
 ghost use Rattle.rules.specs.Table.{column_in};
 ghost use Rattle.rules.specs.Edition.{column_size};

@@ -1,4 +1,6 @@
 // Pay by document 000: the factor of each characteristic, the composite, the verdict and the final pay.
+#![tactic(auto)]
+
 ghost use Rattle.std.specs.Prelude.{◌≡◌, pos};
 ghost use Rattle.rules.specs.Pay.{factor, weighted, composite, final_pay, rejected, verdict, payment};
 ghost use Rattle.rules.specs.Answers.{pay_said};
@@ -13,7 +15,7 @@ use rules::{
 };
 
 // Document 000's pay rule.
-#[derive(Drop)]
+#[derive(Clone, Copy)]
 pub struct PayRule;
 
 impl PayRule {

@@ -1,4 +1,6 @@
 // Prints Table 106-1 as the crate `table` has it, an entry at a time: tab-separated, in percent, a line for each index.
+#![tactic(auto)]
+
 ghost use Rattle.std.specs.Prelude.{◌≤◌};
 
 use io::print_decimal;

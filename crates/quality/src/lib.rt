@@ -1,4 +1,6 @@
 // Percent within limits: direct evaluation, of a lent list of readings and of a lot in memory, by the edition that is named in a lent store.
+#![tactic(auto)]
+
 mod row;
 mod side;
 
@@ -20,7 +22,7 @@ ghost use Rattle.laws.specs.Totalled.{with_column_say, columned_said};
 
 use editions::named;
 use readings::spread;
-use rules::store::{COLUMN_SIZE, Named};
+use rules::store::Named;
 use rules::{
     ColumnAnswer, Columned, Evaluation, HUNDRED_PERCENT, HeldLot, Hundredths, Limit, Percentages,
     Refusal, Totals, TotalsAnswer, Tried,
@@ -93,7 +95,7 @@ pub fn percentages(store: &[u8], lot: Columned, upper: Limit, lower: Limit) -> P
 {
     let column = lot.column;
     by_column(
-        &store[column..column + COLUMN_SIZE],
+        &store[column..column + 108],
         lot.totals,
         upper,
         lower,

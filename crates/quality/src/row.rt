@@ -17,7 +17,7 @@ fn admits(n: u64, v: u64, d: i64, k: u64) -> bool
 }
 
 // The row at which a lookup ends, and how many it tried.
-#[derive(Drop)]
+#[derive(Clone, Copy)]
 pub struct RowLookup {
     pub row: u64,
     pub tried: u32,

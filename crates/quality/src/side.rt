@@ -15,7 +15,7 @@ use crate::row::row;
 use rules::{HUNDRED_PERCENT, Hundredths, Limit, Thousandths, Totals};
 
 // A percentage, and how many rows were tried for it.
-#[derive(Drop)]
+#[derive(Clone, Copy)]
 pub struct SideLookup {
     pub percentage: Hundredths,
     pub tried: u32,

@@ -1,4 +1,6 @@
 // The refusal table of document 01, as tests: what an entry does not answer, and by which refusal.
+#![tactic(auto)]
+
 ghost use Rattle.std.specs.Prelude.{◌≡◌, ◌||◌};
 ghost use Rattle.rules.specs.Units.{in_range};
 ghost use Rattle.rules.specs.Said.{checked};

@@ -1,4 +1,6 @@
 // The words of documents 01 and 02: units, limits, refusals, lots and answers. What is right of them is in specs/; the crates above compute it.
+#![tactic(auto)]
+
 pub mod host;
 pub mod store;
 
@@ -12,45 +14,45 @@ pub const MOST: usize = 17;
 pub const HUNDRED_PERCENT: i64 = 10000;
 
 // Thousandths, whole: a reading, a limit, a sum of readings, a deviation.
-#[derive(Drop)]
+#[derive(Clone, Copy)]
 pub struct Thousandths(pub i32);
 
 // A percentage in hundredths.
-#[derive(Drop)]
+#[derive(Clone, Copy)]
 pub struct Hundredths(pub i64);
 
 // The pay factor of one characteristic, in 200ths of a percent.
-#[derive(Drop)]
+#[derive(Clone, Copy)]
 pub struct TwoHundredths(pub i64);
 
 // W, the weighted sum of three factors: in 2,000ths of a percent, since the weights are tenths.
-#[derive(Drop)]
+#[derive(Clone, Copy)]
 pub struct Weighted(pub i64);
 
 // A composite pay factor, in thousandths.
-#[derive(Drop)]
+#[derive(Clone, Copy)]
 pub struct Composite(pub i64);
 
 // A sum of money.
-#[derive(Drop)]
+#[derive(Clone, Copy)]
 pub struct Cents(pub i64);
 
 // A quantity, in hundredths of a ton.
-#[derive(Drop)]
+#[derive(Clone, Copy)]
 pub struct HundredthTons(pub i64);
 
 // A verdict as a pay sheet has it: 0 accepted, 1 rejected. Any number may stand in it.
-#[derive(Drop)]
+#[derive(Clone, Copy)]
 pub struct SheetVerdict(pub i64);
 
-#[derive(Drop)]
+#[derive(Clone, Copy)]
 pub enum Limit {
     Absent,
     At(Thousandths),
 }
 
 // Why an entry does not answer. The numbers are document 01's and document 02's.
-#[derive(Drop)]
+#[derive(Clone, Copy)]
 pub enum Refusal {
     // 1: too few bytes, or the length does not fit the slice
     Size,
@@ -103,7 +105,7 @@ impl Refusal {
 }
 
 // A lot in memory: its readings are the first `count`. Any numbers may stand in it; an entry that takes one refuses what is no lot.
-#[derive(Drop)]
+#[derive(Clone, Copy)]
 pub struct HeldLot {
     pub upper: Limit,
     pub lower: Limit,
@@ -112,67 +114,67 @@ pub struct HeldLot {
 }
 
 // n, T and Z of some readings: their count, their sum and the sum of their squares.
-#[derive(Drop)]
+#[derive(Clone, Copy)]
 pub struct Totals {
     pub n: u32,
     pub t: i64,
     pub z: i64,
 }
 
-#[derive(Drop)]
+#[derive(Clone, Copy)]
 pub enum TotalsAnswer {
     Answers(Totals),
     Refused(Refusal),
 }
 
 // The totals of a lot, and the place in a store at which the column for its count starts.
-#[derive(Drop)]
+#[derive(Clone, Copy)]
 pub struct Columned {
     pub totals: Totals,
     pub column: usize,
 }
 
-#[derive(Drop)]
+#[derive(Clone, Copy)]
 pub enum ColumnAnswer {
     Answers(Columned),
     Refused(Refusal),
 }
 
 // An answer that holds no values: either there are none, or they stand beside it.
-#[derive(Drop)]
+#[derive(Clone, Copy)]
 pub enum Outcome {
     Answers,
     Refused(Refusal),
 }
 
 // The mean, unrounded: the sum of the readings and their count.
-#[derive(Drop)]
+#[derive(Clone, Copy)]
 pub struct Mean {
     pub total: Thousandths,
     pub count: u32,
 }
 
-#[derive(Drop)]
+#[derive(Clone, Copy)]
 pub enum MeanAnswer {
     Answers(Mean),
     Refused(Refusal),
 }
 
-#[derive(Drop)]
+#[derive(Clone, Copy)]
 pub enum DeviationAnswer {
     Answers(Thousandths),
     Refused(Refusal),
 }
 
 // How many rows of the table were tried for each side.
-#[derive(Drop)]
+#[derive(Clone, Copy)]
 pub struct Tried {
     pub upper: u32,
     pub lower: u32,
 }
 
 // The percentage of each side, percent within limits, and the rows tried.
-#[derive(Drop)]
+#[derive(Clone, Copy)]
 pub struct Percentages {
     pub upper: Hundredths,
     pub lower: Hundredths,
@@ -180,20 +182,20 @@ pub struct Percentages {
     pub tried: Tried,
 }
 
-#[derive(Drop)]
+#[derive(Clone, Copy)]
 pub enum Evaluation {
     Answers(Percentages),
     Refused(Refusal),
 }
 
-#[derive(Drop)]
+#[derive(Clone, Copy)]
 pub enum Verdict {
     Accepted,
     Rejected,
 }
 
 // The composite, the verdict on each characteristic and on the lot, and the pay, which is given whatever the verdict.
-#[derive(Drop)]
+#[derive(Clone, Copy)]
 pub struct Payment {
     pub composite: Composite,
     pub vma: Verdict,
@@ -203,83 +205,83 @@ pub struct Payment {
     pub pay: Cents,
 }
 
-#[derive(Drop)]
+#[derive(Clone, Copy)]
 pub enum PayAnswer {
     Answers(Payment),
     Refused(Refusal),
 }
 
 // A lower and an upper limit as they are worked out: they may be out of range.
-#[derive(Drop)]
+#[derive(Clone, Copy)]
 pub struct Pair {
     pub lower: i64,
     pub upper: i64,
 }
 
-#[derive(Drop)]
+#[derive(Clone, Copy)]
 pub struct Limits {
     pub lower: Thousandths,
     pub upper: Thousandths,
 }
 
 // The limits of the three characteristics of a mixture.
-#[derive(Drop)]
+#[derive(Clone, Copy)]
 pub struct MixtureLimits {
     pub vma: Limits,
     pub voids: Limits,
     pub density: Limits,
 }
 
-#[derive(Drop)]
+#[derive(Clone, Copy)]
 pub enum MixtureAnswer {
     Answers(MixtureLimits),
     Refused(Refusal),
 }
 
 // An enum can hold no array, so the lot that was read stands beside the outcome. Where the record is refused the lot is blank.
-#[derive(Drop)]
+#[derive(Clone, Copy)]
 pub struct ReadAnswer {
     pub said: Outcome,
     pub lot: HeldLot,
 }
 
 // The number of bytes written.
-#[derive(Drop)]
+#[derive(Clone, Copy)]
 pub enum WriteAnswer {
     Answers(usize),
     Refused(Refusal),
 }
 
 // How many items stand in a lent list that was filled.
-#[derive(Drop)]
+#[derive(Clone, Copy)]
 pub enum ListAnswer {
     Answers(usize),
     Refused(Refusal),
 }
 
 // The place in a store at which an edition's entry starts.
-#[derive(Drop)]
+#[derive(Clone, Copy)]
 pub enum PlaceAnswer {
     Answers(usize),
     Refused(Refusal),
 }
 
 // The notebook's row of a lot that is not refused.
-#[derive(Drop)]
+#[derive(Clone, Copy)]
 pub struct Row {
     pub mean: f64,
     pub deviation: f64,
     pub pwl: f64,
 }
 
-#[derive(Drop)]
+#[derive(Clone, Copy)]
 pub enum RowAnswer {
     Answers(Row),
     Refused(Refusal),
 }
 
 // A pay sheet, entries 0 to 5. Any numbers may stand in it; `check` and `compare` refuse what is no sheet.
-#[derive(Drop)]
+#[derive(Clone, Copy)]
 pub struct Sheet {
     pub vma: Hundredths,
     pub voids: Hundredths,
@@ -290,20 +292,20 @@ pub struct Sheet {
 }
 
 // The PWL of a lot, alone.
-#[derive(Drop)]
+#[derive(Clone, Copy)]
 pub enum PwlAnswer {
     Answers(Hundredths),
     Refused(Refusal),
 }
 
-#[derive(Drop)]
+#[derive(Clone, Copy)]
 pub enum SheetAnswer {
     Answers(Sheet),
     Refused(Refusal),
 }
 
 // An entry in which two sheets differ: which one it is, and the number that each has there.
-#[derive(Drop)]
+#[derive(Clone, Copy)]
 pub struct Difference {
     pub entry: u32,
     pub first: i64,
@@ -311,13 +313,13 @@ pub struct Difference {
 }
 
 // What is found of a sheet beside ours: it is accepted, or there is a first entry in which the two differ.
-#[derive(Drop)]
+#[derive(Clone, Copy)]
 pub enum Finding {
     Accepted,
     Differs(Difference),
 }
 
-#[derive(Drop)]
+#[derive(Clone, Copy)]
 pub enum CheckAnswer {
     Answers(Finding),
     Refused(Refusal),

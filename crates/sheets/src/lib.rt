@@ -1,4 +1,6 @@
 // Pay sheets: a contractor's beside the one that the rules give, and two beside each other.
+#![tactic(auto)]
+
 mod entries;
 mod ours;
 

@@ -1,4 +1,6 @@
 // Table 106-1 of document 004, as document 02 corrects it, a column at a time and as an edition; and an entry of any column.
+#![tactic(auto)]
+
 mod columns;
 
 ghost use Rattle.std.specs.Prelude.{◌≡◌, ◌≤◌, [], ◌∷◌, ◌++◌, pos, length, drop};
@@ -45,8 +47,8 @@ pub fn entry(column: &[u8], k: usize) -> Hundredths
     hundredths(two(column[2 * k], column[2 * k + 1]))
 }
 
-// The bytes of the edition, with its nine columns.
-const EDITION: usize = EDITION_HEAD + 9 * COLUMN_SIZE;
+// The bytes of the edition: 7 before its columns, and 108 to each of nine.
+const EDITION: usize = 979;
 
 // The edition at the start of lent bytes, under a number. Inner: `edition` writes where there is room.
 fn fill(number: u16, out: &mut [u8])
@@ -57,7 +59,7 @@ fn fill(number: u16, out: &mut [u8])
     bytes::copy(&head, out);
     let mut n = 2;
     while n <= 10 {
-        bytes::copy(&column(n), &mut out[EDITION_HEAD + COLUMN_SIZE * (n - 2)..]);
+        bytes::copy(&column(n), &mut out[7 + 108 * (n - 2)..]);
         n += 1;
     }
 }

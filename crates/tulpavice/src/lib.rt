@@ -1,4 +1,6 @@
 // Every entry, for a host in C; include/tulpavice.h declares them. Each is thin: the crates below work everything out.
+#![tactic(auto)]
+
 ghost use Rattle.std.specs.Prelude.{◌≡◌};
 ghost use Rattle.rules.specs.Lot.{lot_in};
 ghost use Rattle.rules.specs.Store.{table_in};

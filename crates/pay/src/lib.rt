@@ -33,6 +33,7 @@ impl PayRule {
     pub const WEIGHT_DENSITY: i64 = 4;
 
     // One characteristic's factor, 10,600 + PWL. Inner: `payment` keeps the bounds.
+    #[tactic(auto, unfolding(rules::specs::Pay::factor))]
     pub fn factor(pwl: Hundredths) -> TwoHundredths
         requires { InPercent pwl.0 }
         ensures { result.0 ≡ factor pwl.0 }
@@ -54,6 +55,7 @@ impl PayRule {
     }
 
     // (W + 100)/200, whole part: half goes up.
+    #[tactic(auto, unfolding(rules::specs::Pay::composite))]
     fn composite(w: Weighted) -> Composite
         requires { Between (pos 106000) (pos 206000) w.0 }
         ensures { result.0 ≡ composite w.0 }
@@ -88,6 +90,7 @@ fn verdict(rejected: bool) -> Verdict
 }
 
 // The composite, the verdicts and the pay, of numbers that pay takes.
+#[tactic(auto, unfolding(rules::specs::Pay::payment))]
 fn paid(
     vma: Hundredths,
     voids: Hundredths,

@@ -59,6 +59,7 @@ fn voids_pair(target: Thousandths) -> Pair
     pair(target, TABLE_1[VOIDS][0], TABLE_1[VOIDS][1])
 }
 
+#[tactic(auto, unfolding(rules::specs::Mixture::density_pairs))]
 fn density(mixture: usize) -> Limits
     requires { mixture ≤ 3 }
     ensures { result ≡ limits (density_pair (pos mixture)) }

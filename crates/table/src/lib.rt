@@ -56,10 +56,11 @@ fn fill(number: u16, out: &mut [u8])
     ensures { out.new ≡ edition_106_1 number ++ drop 979 out.old }
 {
     let head = [3, 209, 1, (number / 256) as u8, (number % 256) as u8, 2, 10];
-    bytes::copy(&head, out);
+    out[..7].copy_from_slice(&head);
     let mut n = 2;
     while n <= 10 {
-        bytes::copy(&column(n), &mut out[7 + 108 * (n - 2)..]);
+        let at = 7 + 108 * (n - 2);
+        out[at..at + 108].copy_from_slice(&column(n));
         n += 1;
     }
 }

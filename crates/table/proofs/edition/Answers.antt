@@ -1,10 +1,5 @@
--- `table::edition` writes the edition where there are 979 bytes for it, and refuses where there are fewer.
-use mathlib.Core.Path.{◌≡◌, sym, ap, ◌∙◌}
-use mathlib.Core.List.{List, [], ◌++◌}
-use Prim.Native.Nat.{ℕ, ◌≤◌, ◌<◌}
-use native.Mathlib.Omega.{arith}
-use lib.ListN.{length, drop}
-use borrow.Author.Rules.{rules}
+-- The edition is written where there are 979 bytes for it, and refused where there are fewer.
+use Rattle.std.proofs.Common.{◌≡◌, ℕ, ◌<◌, ◌≤◌, List, [], ◌++◌, length, drop, sym, ap, ◌∙◌, arith}
 use borrow.Author.Tests.{lt-ltb, le-ltb}
 use Rattle.rules.specs.declared.Refusal.TheVariants.{Room}
 use Rattle.rules.specs.Said.{refused, answers}
@@ -14,8 +9,7 @@ use Rattle.rules.specs.Entries.{written}
 use Rattle.rules.specs.Editions.{default_says}
 use Rattle.laws.proofs.Ruled.{ruled_met, ruled_passed, ruled_none}
 use Rattle.laws.proofs.DefaultEdition.{default_size}
-use Rattle.table.proofs.edition.Statement.{statement}
-use Rattle.table.proofs.edition.Tie as tie
+use Rattle.table.proofs.edition.Goals as goal
 
 -- what is said of fewer than 979 bytes, and of as many or more
 module _ (number : ℕ) (out : List ℕ) where
@@ -31,26 +25,21 @@ module _ (number : ℕ) (out : List ℕ) where
       let room : length (edition_106_1 number) ≤ length out = omega (arith, default_size number) in
       ruled_passed (room_case (length out) (length (edition_106_1 number))) [] _ (le-ltb _ _ room) ∙ ruled_none _ ∙ ap answers (default_size number)
 
-fill-requires : tie.Need-fill-requires
-fill-requires c κs = search rules
+pub returns-then-out-lt-EDITION-clause-result_value : goal.returns-then-out-lt-EDITION-clause-result_value
+returns-then-out-lt-EDITION-clause-result_value c = sym (short c.args.number c.args.out.now (omega arith))
 
-returns : tie.Need-returns
+pub returns-then-out-lt-EDITION-clause-out_after : goal.returns-then-out-lt-EDITION-clause-out_after
 unfolding written
-returns c =
-    let args = c.before.before.args in
-    let says = sym (short args.number args.out.now (omega arith)) in
-    (says, ap (written (edition_106_1 args.number) args.out.now) says)
+returns-then-out-lt-EDITION-clause-out_after c =
+    let args = c.args in
+    ap (written (edition_106_1 args.number) args.out.now) (sym (short args.number args.out.now (omega arith)))
 
-same_length : tie.Need-same-length
-same_length c = search rules
+pub returns-else-out-lt-EDITION-clause-result_value : goal.returns-else-out-lt-EDITION-clause-result_value
+returns-else-out-lt-EDITION-clause-result_value c = sym (long c.args.number c.args.out.now (omega arith))
 
-returns-2 : tie.Need-returns-2
+pub returns-else-out-lt-EDITION-clause-out_after : goal.returns-else-out-lt-EDITION-clause-out_after
 unfolding written
-returns-2 c =
-    let args = c.before.before.before.before.before.before.args in
-    let says = sym (long args.number args.out.now (omega arith)) in
+returns-else-out-lt-EDITION-clause-out_after c =
+    let args = c.args in
     let size = ap (λ (n : ℕ). edition_106_1 args.number ++ drop n args.out.now) (sym (default_size args.number)) in
-    (says, c.before.before.fill.ensures ∙ size ∙ ap (written (edition_106_1 args.number) args.out.now) says)
-
-pub edition_spec : {M : Type 1} → statement M
-edition_spec = tie.close (tie.spec fill-requires returns same_length returns-2)
+    c.fill.ensures ∙ size ∙ ap (written (edition_106_1 args.number) args.out.now) (sym (long args.number args.out.now (omega arith)))

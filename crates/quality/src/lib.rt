@@ -94,12 +94,7 @@ pub fn percentages(store: &[u8], lot: Columned, upper: Limit, lower: Limit) -> P
     ensures { result ≡ percentages_of nearest (column_in (drop lot.column store.now)) lot.totals upper lower }
 {
     let column = lot.column;
-    by_column(
-        &store[column..column + 108],
-        lot.totals,
-        upper,
-        lower,
-    )
+    by_column(&store[column..column + 108], lot.totals, upper, lower)
 }
 
 // Direct evaluation, of a lent list of readings.

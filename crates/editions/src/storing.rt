@@ -40,7 +40,7 @@ pub fn write_at(store: &mut [u8], at: usize, edition: &[u8])
     ensures { store.new ≡ stored_at at edition.now store.old }
 {
     let next = at + edition.len();
-    bytes::copy(edition, &mut store[at..]);
+    store[at..next].copy_from_slice(edition);
     if 2 <= store.len() - next {
         store[next] = 0;
         store[next + 1] = 0;

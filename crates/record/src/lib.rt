@@ -93,7 +93,7 @@ fn record_of(lot: HeldLot) -> [u8; LONGEST]
     let readings = lot.readings;
     let head = head_of(lot.count, upper, lower);
     let mut whole = [0; LONGEST];
-    bytes::copy(&head, &mut whole);
+    whole[..HEAD].copy_from_slice(&head);
     let mut i = 0;
     while i < n {
         let reading = readings[i];
@@ -116,7 +116,8 @@ pub fn write(lot: HeldLot, out: &mut [u8]) -> WriteAnswer
                 WriteAnswer::Refused(Refusal::Room)
             } else {
                 let whole = record_of(lot);
-                WriteAnswer::Answers(bytes::copy(&whole[..size], out))
+                out[..size].copy_from_slice(&whole[..size]);
+                WriteAnswer::Answers(size)
             }
         }
     }

@@ -1,0 +1,17 @@
+-- A refused lot's mean is 0; else it is that of the totals, and so the row's.
+use Rattle.std.proofs.Common.{sym, ap, ◌∙◌}
+use Rattle.std.specs.Float.Ieee.{of_bits}
+use Rattle.rules.specs.Notebook.{row_of, mean_asked}
+use Rattle.laws.proofs.Lent.{lent_accepted, lent_refused}
+use Rattle.notebook.proofs.mean.Goals as goal
+
+pub mean_of-requires : goal.mean_of-requires
+mean_of-requires c = (lent_accepted _ _ _ _ c.lent.ensures.0 c.in-Answers.is).bounded
+
+pub returns-in-Refused : goal.returns-in-Refused
+unfolding of_bits
+returns-in-Refused c = sym (ap mean_asked (lent_refused _ _ _ _ c.lent.ensures.0 c.in-Refused.is))
+
+pub returns-in-Answers : goal.returns-in-Answers
+unfolding row_of
+returns-in-Answers c = c.mean_of.ensures ∙ sym (ap mean_asked (lent_accepted _ _ _ _ c.lent.ensures.0 c.in-Answers.is).row)

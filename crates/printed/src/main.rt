@@ -3,59 +3,60 @@
 
 ghost use Rattle.std.specs.Prelude.{◌≤◌};
 
-use io::print_decimal;
-use libc::STDOUT_FILENO;
+use std::io;
 
 // A number of hundredths with its point.
-fn show(hundredths: u64) {
-    print_decimal(STDOUT_FILENO, hundredths / 100);
-    io::write_all(STDOUT_FILENO, b".");
-    print_decimal(STDOUT_FILENO, hundredths / 10 % 10);
-    print_decimal(STDOUT_FILENO, hundredths % 10);
+fn show(rt: &impl Print, hundredths: u64) -> io::Result<()> {
+    print!(rt;
+        "{}.{}{}",
+        hundredths / 100,
+        hundredths / 10 % 10,
+        hundredths % 10
+    )
 }
 
 // No entry is negative, so nothing is left out.
-fn show_signed(hundredths: i64) {
+fn show_signed(rt: &impl Print, hundredths: i64) -> io::Result<()> {
     if 0 <= hundredths {
-        show(hundredths as u64);
+        show(rt, hundredths as u64)?;
     }
+    Ok(())
 }
 
-fn cell(n: usize, k: usize)
+fn cell(rt: &impl Print, n: usize, k: usize) -> io::Result<()>
     requires { (2 ≤ n) × (n ≤ 10) × (k ≤ 53) }
 {
-    io::write_all(STDOUT_FILENO, b"\t");
+    print!(rt; "\t")?;
     let column = table::column(n);
     let entry = table::entry(&column, k);
-    show_signed(entry.0);
+    show_signed(rt, entry.0)
 }
 
-fn cells(k: usize)
+fn cells(rt: &impl Print, k: usize) -> io::Result<()>
     requires { k ≤ 53 }
 {
     for n in 2..11 {
-        cell(n, k);
+        cell(rt, n, k)?;
     }
+    Ok(())
 }
 
-fn row(k: usize)
+fn row(rt: &impl Print, k: usize) -> io::Result<()>
     requires { k ≤ 53 }
 {
-    show(k as u64 * 5);
-    cells(k);
-    io::write_all(STDOUT_FILENO, b"\n");
+    show(rt, k as u64 * 5)?;
+    cells(rt, k)?;
+    print!(rt; "\n")
 }
 
-fn rows() {
+fn rows(rt: &impl Print) -> io::Result<()> {
     for k in 0..54 {
-        row(k);
+        row(rt, k)?;
     }
+    Ok(())
 }
 
-fn main() {
-    io::write_all(
-        STDOUT_FILENO,
-        b"index\tn=2\tn=3\tn=4\tn=5\tn=6\tn=7\tn=8\tn=9\tn=10\n",
-    );
-    rows();
+fn main(rt: HostRuntime) -> io::Result<()> {
+    print!(rt; "index\tn=2\tn=3\tn=4\tn=5\tn=6\tn=7\tn=8\tn=9\tn=10\n")?;
+    rows(&rt)
 }

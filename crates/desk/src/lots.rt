@@ -5,32 +5,33 @@ use crate::{payments, show};
 use quality::evaluate;
 use readings::{deviation, mean};
 use rules::{DeviationAnswer, Evaluation, Limit, MeanAnswer, Thousandths};
+use std::io;
 
-fn show_mean(answer: MeanAnswer) {
+fn show_mean(rt: &impl Print, answer: MeanAnswer) -> io::Result<()> {
     match answer {
         MeanAnswer::Answers(mean) => {
-            thousandths(b"T ", mean.total.0);
-            number(b" n ", mean.count as i64);
+            thousandths(rt, b"T ", mean.total.0)?;
+            number(rt, b" n ", mean.count as i64)
         }
-        MeanAnswer::Refused(refusal) => show::refusal(refusal),
+        MeanAnswer::Refused(refusal) => show::refusal(rt, refusal),
     }
 }
 
-fn show_deviation(answer: DeviationAnswer) {
+fn show_deviation(rt: &impl Print, answer: DeviationAnswer) -> io::Result<()> {
     match answer {
-        DeviationAnswer::Answers(s) => thousandths(b"deviation ", s.0),
-        DeviationAnswer::Refused(refusal) => show::refusal(refusal),
+        DeviationAnswer::Answers(s) => thousandths(rt, b"deviation ", s.0),
+        DeviationAnswer::Refused(refusal) => show::refusal(rt, refusal),
     }
 }
 
-fn show_evaluation(evaluation: Evaluation) {
+fn show_evaluation(rt: &impl Print, evaluation: Evaluation) -> io::Result<()> {
     match evaluation {
         Evaluation::Answers(p) => {
-            number(b"upper ", p.upper.0);
-            number(b" lower ", p.lower.0);
-            number(b" PWL ", p.pwl.0);
+            number(rt, b"upper ", p.upper.0)?;
+            number(rt, b" lower ", p.lower.0)?;
+            number(rt, b" PWL ", p.pwl.0)
         }
-        Evaluation::Refused(refusal) => show::refusal(refusal),
+        Evaluation::Refused(refusal) => show::refusal(rt, refusal),
     }
 }
 
@@ -38,19 +39,25 @@ fn show_evaluation(evaluation: Evaluation) {
 const NUMBER: u16 = 1;
 
 // By Table 106-1, which is a store of one edition by itself.
-fn lot(name: &[u8], readings: &[i32], upper: Limit, lower: Limit) -> Evaluation {
+fn lot(
+    rt: &impl Print,
+    name: &[u8],
+    readings: &[i32],
+    upper: Limit,
+    lower: Limit,
+) -> io::Result<Evaluation> {
     let mut store = [0; 979];
     table::edition(NUMBER, &mut store);
     let evaluation = evaluate(&store, NUMBER as u32, readings, upper, lower);
-    words(name);
-    words(b": ");
-    show_mean(mean(readings));
-    words(b"; ");
-    show_deviation(deviation(readings));
-    words(b"; ");
-    show_evaluation(evaluation);
-    words(b"\n");
-    evaluation
+    words(rt, name)?;
+    words(rt, b": ")?;
+    show_mean(rt, mean(readings))?;
+    words(rt, b"; ")?;
+    show_deviation(rt, deviation(readings))?;
+    words(rt, b"; ")?;
+    show_evaluation(rt, evaluation)?;
+    words(rt, b"\n")?;
+    Ok(evaluation)
 }
 
 fn at(z: i32) -> Limit {
@@ -58,8 +65,8 @@ fn at(z: i32) -> Limit {
 }
 
 // Document 000's worked example, from readings to pay.
-pub(crate) fn worked_example() {
-    words(b"Worked example\n");
+pub(crate) fn worked_example(rt: &impl Print) -> io::Result<()> {
+    words(rt, b"Worked example\n")?;
     let voids = [4200, 4500, 3300, 5000, 5400, 2500, 3800, 4100, 4300, 4500];
     let vma = [
         13000, 12500, 13000, 13300, 12900, 12400, 13400, 13000, 12600, 12800,
@@ -67,33 +74,35 @@ pub(crate) fn worked_example() {
     let density = [
         91500, 93000, 92900, 93500, 93000, 94000, 92800, 93500, 91000, 92700,
     ];
-    let voids = lot(b"Voids", &voids, at(5350), at(2650));
-    let vma = lot(b"VMA", &vma, at(16000), at(12300));
-    let density = lot(b"Density", &density, at(97000), at(91500));
-    payments::worked_example(vma, voids, density);
+    let voids = lot(rt, b"Voids", &voids, at(5350), at(2650))?;
+    let vma = lot(rt, b"VMA", &vma, at(16000), at(12300))?;
+    let density = lot(rt, b"Density", &density, at(97000), at(91500))?;
+    payments::worked_example(rt, vma, voids, density)
 }
 
 // Refusal 4: n not 2 to 17. The table has no column for 11 and more: refusal 10, but no refusal of mean and deviation.
-pub(crate) fn counts() {
-    words(b"\nCounts\n");
+pub(crate) fn counts(rt: &impl Print) -> io::Result<()> {
+    words(rt, b"\nCounts\n")?;
     let many = [4000; 18];
-    lot(b"1 reading", &many[..1], at(4000), Limit::Absent);
-    lot(b"2 readings", &many[..2], at(4000), Limit::Absent);
-    lot(b"10 readings", &many[..10], at(4000), Limit::Absent);
-    lot(b"11 readings", &many[..11], at(4000), Limit::Absent);
-    lot(b"17 readings", &many[..17], at(4000), Limit::Absent);
-    lot(b"18 readings", &many, at(4000), Limit::Absent);
+    lot(rt, b"1 reading", &many[..1], at(4000), Limit::Absent)?;
+    lot(rt, b"2 readings", &many[..2], at(4000), Limit::Absent)?;
+    lot(rt, b"10 readings", &many[..10], at(4000), Limit::Absent)?;
+    lot(rt, b"11 readings", &many[..11], at(4000), Limit::Absent)?;
+    lot(rt, b"17 readings", &many[..17], at(4000), Limit::Absent)?;
+    lot(rt, b"18 readings", &many, at(4000), Limit::Absent)?;
+    Ok(())
 }
 
 // Refusal 5: a reading out of range.
-pub(crate) fn ranges() {
-    words(b"\nRanges\n");
+pub(crate) fn ranges(rt: &impl Print) -> io::Result<()> {
+    words(rt, b"\nRanges\n")?;
     let highest = [500000, 500000];
     let above = [500000, 500001];
     let lowest = [-500000, -500000];
     let below = [-500001, -500000];
-    lot(b"500000", &highest, at(500000), at(500000));
-    lot(b"500001", &above, at(500000), Limit::Absent);
-    lot(b"-500000", &lowest, at(-500000), at(-500000));
-    lot(b"-500001", &below, at(500000), Limit::Absent);
+    lot(rt, b"500000", &highest, at(500000), at(500000))?;
+    lot(rt, b"500001", &above, at(500000), Limit::Absent)?;
+    lot(rt, b"-500000", &lowest, at(-500000), at(-500000))?;
+    lot(rt, b"-500001", &below, at(500000), Limit::Absent)?;
+    Ok(())
 }

@@ -7,12 +7,14 @@ mod payments;
 mod records;
 mod show;
 
-fn main() {
-    lots::worked_example();
-    lots::counts();
-    lots::ranges();
-    payments::document_000();
-    payments::verdicts();
-    mixtures::mixtures();
-    records::both_ways();
+use std::io;
+
+fn main(rt: HostRuntime) -> io::Result<()> {
+    lots::worked_example(&rt)?;
+    lots::counts(&rt)?;
+    lots::ranges(&rt)?;
+    payments::document_000(&rt)?;
+    payments::verdicts(&rt)?;
+    mixtures::mixtures(&rt)?;
+    records::both_ways(&rt)
 }

@@ -6,6 +6,7 @@ use crate::show;
 use crate::show::{count, words};
 use record::{read, write};
 use rules::{HeldLot, Limit, MOST, Outcome, Thousandths, WriteAnswer};
+use std::io;
 
 // How many bytes the record of D5 has, and these as document 01 prints them.
 const SIZE: usize = 29;
@@ -19,51 +20,53 @@ fn digit(x: u8) -> u8
     if x < 10 { 48 + x } else { 55 + x }
 }
 
-fn show_byte(b: u8) {
+fn show_byte(rt: &impl Print, b: u8) -> io::Result<()> {
     let text = [32, digit(b / 16), digit(b % 16)];
-    words(&text);
+    words(rt, &text)
 }
 
-fn show_bytes(bytes: &[u8]) {
+fn show_bytes(rt: &impl Print, bytes: &[u8]) -> io::Result<()> {
     let mut i = 0;
     while i < bytes.len() {
-        show_byte(bytes[i]);
+        show_byte(rt, bytes[i])?;
         i += 1;
     }
+    Ok(())
 }
 
 // Writes a lot into three bytes more than the record of D5 has.
-fn written(lot: HeldLot) {
+fn written(rt: &impl Print, lot: HeldLot) -> io::Result<()> {
     let mut out = [0xEE; SIZE + 3];
     match write(lot, &mut out) {
-        WriteAnswer::Answers(size) => count(size as u64),
-        WriteAnswer::Refused(refusal) => show::refusal(refusal),
+        WriteAnswer::Answers(size) => count(rt, size as u64)?,
+        WriteAnswer::Refused(refusal) => show::refusal(rt, refusal)?,
     }
-    words(b";");
-    show_bytes(&out);
-    words(b"\n");
+    words(rt, b";")?;
+    show_bytes(rt, &out)?;
+    words(rt, b"\n")
 }
 
-fn written_again(bytes: &[u8]) {
+fn written_again(rt: &impl Print, bytes: &[u8]) -> io::Result<()> {
     let answer = read(bytes);
     let said = answer.said;
     let lot = answer.lot;
     match said {
-        Outcome::Answers => written(lot),
-        Outcome::Refused(refusal) => show::refusal(refusal),
+        Outcome::Answers => written(rt, lot),
+        Outcome::Refused(refusal) => show::refusal(rt, refusal),
     }
 }
 
-pub(crate) fn both_ways() {
+pub(crate) fn both_ways(rt: &impl Print) -> io::Result<()> {
     let mut readings = [Thousandths(0); MOST];
     readings[3] = Thousandths(80);
-    words(b"\nRecord\nD5, written: ");
-    written(HeldLot {
+    words(rt, b"\nRecord\nD5, written: ")?;
+    let lot = HeldLot {
         upper: Limit::At(Thousandths(21)),
         lower: Limit::Absent,
         count: 4,
         readings: readings,
-    });
-    words(b"D5, as it is printed, read and written again: ");
-    written_again(&D5);
+    };
+    written(rt, lot)?;
+    words(rt, b"D5, as it is printed, read and written again: ")?;
+    written_again(rt, &D5)
 }

@@ -1,29 +1,29 @@
 // How the examples are printed: a name and a number, or the number of a refusal.
-use io::print_decimal;
-use libc::STDOUT_FILENO;
 use readings::magnitude;
 use rules::Refusal;
+use std::io;
+use std::io::Write;
 
-pub(crate) fn words(text: &[u8]) {
-    io::write_all(STDOUT_FILENO, text);
+pub(crate) fn words(rt: &impl Print, text: &[u8]) -> io::Result<()> {
+    io::writer(rt).write_all(text)
 }
 
-pub(crate) fn count(n: u64) {
-    print_decimal(STDOUT_FILENO, n);
+pub(crate) fn count(rt: &impl Print, n: u64) -> io::Result<()> {
+    print!(rt; "{n}")
 }
 
-pub(crate) fn number(name: &[u8], z: i64) {
-    words(name);
+pub(crate) fn number(rt: &impl Print, name: &[u8], z: i64) -> io::Result<()> {
+    words(rt, name)?;
     if z < 0 {
-        words(b"-");
+        words(rt, b"-")?;
     }
-    count(magnitude(z));
+    count(rt, magnitude(z))
 }
 
-pub(crate) fn thousandths(name: &[u8], z: i32) {
-    number(name, z as i64);
+pub(crate) fn thousandths(rt: &impl Print, name: &[u8], z: i32) -> io::Result<()> {
+    number(rt, name, z as i64)
 }
 
-pub(crate) fn refusal(refused: Refusal) {
-    number(b"refusal ", refused.number() as i64);
+pub(crate) fn refusal(rt: &impl Print, refused: Refusal) -> io::Result<()> {
+    number(rt, b"refusal ", refused.number() as i64)
 }

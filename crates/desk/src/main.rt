@@ -1,7 +1,7 @@
 // What document 01 asks to be run and compared, beside the examples marked D, which are proved.
 #![tactic(auto)]
 
-mod lots;
+mod evaluations;
 mod mixtures;
 mod payments;
 mod records;
@@ -10,9 +10,9 @@ mod show;
 use std::io;
 
 fn main(rt: HostRuntime) -> io::Result<()> {
-    lots::worked_example(&rt)?;
-    lots::counts(&rt)?;
-    lots::ranges(&rt)?;
+    evaluations::worked_example(&rt)?;
+    evaluations::counts(&rt)?;
+    evaluations::ranges(&rt)?;
     payments::document_000(&rt)?;
     payments::verdicts(&rt)?;
     mixtures::mixtures(&rt)?;

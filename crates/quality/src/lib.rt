@@ -38,6 +38,7 @@ fn within(upper: Hundredths, lower: Hundredths) -> Hundredths
 }
 
 // Both sides and PWL, by a column, and the rows tried for each side.
+#[tactic(auto, unfolding(rules::specs::Entries::percentages_of))]
 fn by_column(column: &[u8], a: Totals, upper: Limit, lower: Limit) -> Percentages
     requires { ColumnIn column.now × Bounded a × (out_of_range upper ≡ false) × (out_of_range lower ≡ false) }
     ensures { result ≡ percentages_of nearest (column_in column.now) a upper lower }

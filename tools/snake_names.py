@@ -17,8 +17,12 @@ DECLARED = re.compile(r"^(?:(?:unfoldable|abbrev|pub|record|data) )*([^\s(){}:]+
 USE = re.compile(r"^((?:ghost )?use )([\w.+]+)(?:\.\{([^}]*)\}| as \w+)?;?\s*$")
 
 
+# Words of the library's that names of ours are made of, as they were spelled and as they are.
+WORDS = {"natAbs": "nat_abs", "ltZ": "lt_z", "leZ": "le_z", "quotZ": "quot_z"}
+
+
 def joined(name):
-    """Whether a name has a dash that joins two words, not one that is an operator's."""
+    """Whether a name is to be respelled: it has a dash that joins two words, not one that is an operator's, or a word in camel case."""
     return snake(name) != name
 
 
@@ -29,7 +33,7 @@ def snake(name):
     out = []
     for i, c in enumerate(name):
         out.append("_" if c == "-" and i > 0 and i + 1 < len(name) and name[i - 1] != "-" else c)
-    return "".join(out)
+    return re.sub("|".join(WORDS), lambda word: WORDS[word[0]], "".join(out))
 
 
 def crates(root):

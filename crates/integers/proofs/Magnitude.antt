@@ -14,9 +14,9 @@ use Rattle.integers.proofs.Difference.{Diff, up, down, var, nat, diff_eq, eq_dif
 use Rattle.integers.proofs.Order.{neg_flips}
 
 -- |z| is the sum of the two parts of z, one of which is 0.
-pub natAbs_parts : (z : ℤ) → nat_abs z ≡ up z + down z
-natAbs_parts (pos n) = omega arith
-natAbs_parts (negsuc n) = omega arith
+pub nat_abs_parts : (z : ℤ) → nat_abs z ≡ up z + down z
+nat_abs_parts (pos n) = omega arith
+nat_abs_parts (negsuc n) = omega arith
 
 -- |p − q| ≤ b exactly when neither of p and q is more than b above the other.
 pub diff_within : {z : ℤ} {p q b : ℕ} → Diff z p q → (p ≤ q + b) × (q ≤ p + b) → nat_abs z ≤ b
@@ -24,54 +24,54 @@ diff_within {z = pos n} d h = omega arith
 diff_within {z = negsuc n} d h = omega arith
 
 pub within_diff : {z : ℤ} {p q b : ℕ} → Diff z p q → nat_abs z ≤ b → (p ≤ q + b) × (q ≤ p + b)
-within_diff {z} d h = omega (arith, natAbs_parts z)
+within_diff {z} d h = omega (arith, nat_abs_parts z)
 
 -- |z| ≤ b exactly when −b ≤ z ≤ b.
 pub within : {b : ℕ} {z : ℤ} → neg_ℤ (pos b) ≤ℤ z → z ≤ℤ pos b → nat_abs z ≤ b
 within {b} {z} h k = diff_within (var z) (omega (arith, le_diff (⊝ nat b) (var z) h, le_diff (var z) (nat b) k))
 
 pub within_low : (z : ℤ) {b : ℕ} → nat_abs z ≤ b → neg_ℤ (pos b) ≤ℤ z
-within_low z {b} h = diff_le (⊝ nat b) (var z) (omega (arith, natAbs_parts z))
+within_low z {b} h = diff_le (⊝ nat b) (var z) (omega (arith, nat_abs_parts z))
 
 pub within_high : (z : ℤ) {b : ℕ} → nat_abs z ≤ b → z ≤ℤ pos b
-within_high z {b} h = diff_le (var z) (nat b) (omega (arith, natAbs_parts z))
+within_high z {b} h = diff_le (var z) (nat b) (omega (arith, nat_abs_parts z))
 
 -- The magnitudes of the operations' results.
-pub natAbs_neg : (z : ℤ) → nat_abs (neg_ℤ z) ≡ nat_abs z
-natAbs_neg (pos zero) = refl
-natAbs_neg (pos (suc n)) = refl
-natAbs_neg (negsuc n) = refl
+pub nat_abs_neg : (z : ℤ) → nat_abs (neg_ℤ z) ≡ nat_abs z
+nat_abs_neg (pos zero) = refl
+nat_abs_neg (pos (suc n)) = refl
+nat_abs_neg (negsuc n) = refl
 
-pub natAbs_add : (x y : ℤ) → nat_abs (x +ℤ y) ≤ nat_abs x + nat_abs y
-natAbs_add x y = diff_within (var x ⊕ var y) (omega (arith, natAbs_parts x, natAbs_parts y))
+pub nat_abs_add : (x y : ℤ) → nat_abs (x +ℤ y) ≤ nat_abs x + nat_abs y
+nat_abs_add x y = diff_within (var x ⊕ var y) (omega (arith, nat_abs_parts x, nat_abs_parts y))
 
-pub natAbs_sub : (x y : ℤ) → nat_abs (x -ℤ y) ≤ nat_abs x + nat_abs y
-natAbs_sub x y = diff_within (var x ⊖ var y) (omega (arith, natAbs_parts x, natAbs_parts y))
+pub nat_abs_sub : (x y : ℤ) → nat_abs (x -ℤ y) ≤ nat_abs x + nat_abs y
+nat_abs_sub x y = diff_within (var x ⊖ var y) (omega (arith, nat_abs_parts x, nat_abs_parts y))
 
 pub nat_abs_mul : (x y : ℤ) → nat_abs (x *ℤ y) ≡ nat_abs x * nat_abs y
 nat_abs_mul (pos a) (pos b) = refl
-nat_abs_mul (pos a) (negsuc b) = natAbs_neg (pos (a * suc b))
-nat_abs_mul (negsuc a) (pos b) = natAbs_neg (pos (suc a * b))
+nat_abs_mul (pos a) (negsuc b) = nat_abs_neg (pos (a * suc b))
+nat_abs_mul (negsuc a) (pos b) = nat_abs_neg (pos (suc a * b))
 nat_abs_mul (negsuc a) (negsuc b) = refl
 
 -- If v = w − q, and v and q are 0 or more, then |v| ≤ |w|.
-pub natAbs_less_taken : (v w q : ℤ) → pos 0 ≤ℤ v → pos 0 ≤ℤ q → v ≡ w -ℤ q → nat_abs v ≤ nat_abs w
-natAbs_less_taken (pos a) w (pos b) h k e = omega (arith, natAbs_parts w, eq_diff (nat a) (var w ⊖ nat b) e)
-natAbs_less_taken (pos a) w (negsuc b) h k e = absurd k.le
-natAbs_less_taken (negsuc a) w q h k e = absurd h.le
+pub nat_abs_less_taken : (v w q : ℤ) → pos 0 ≤ℤ v → pos 0 ≤ℤ q → v ≡ w -ℤ q → nat_abs v ≤ nat_abs w
+nat_abs_less_taken (pos a) w (pos b) h k e = omega (arith, nat_abs_parts w, eq_diff (nat a) (var w ⊖ nat b) e)
+nat_abs_less_taken (pos a) w (negsuc b) h k e = absurd k.le
+nat_abs_less_taken (negsuc a) w q h k e = absurd h.le
 
 -- If 0 ≤ x ≤ y, then |x| ≤ |y|; if x ≤ y ≤ 0, then |y| ≤ |x|.
-pub natAbs_mono : {x y : ℤ} → pos 0 ≤ℤ x → x ≤ℤ y → nat_abs x ≤ nat_abs y
-natAbs_mono {x = pos a} {y = pos b} h k = omega arithℤ
-natAbs_mono {x = pos a} {y = negsuc b} h k = absurd k.le
-natAbs_mono {x = negsuc a} h k = absurd h.le
+pub nat_abs_mono : {x y : ℤ} → pos 0 ≤ℤ x → x ≤ℤ y → nat_abs x ≤ nat_abs y
+nat_abs_mono {x = pos a} {y = pos b} h k = omega arithℤ
+nat_abs_mono {x = pos a} {y = negsuc b} h k = absurd k.le
+nat_abs_mono {x = negsuc a} h k = absurd h.le
 
-pub natAbs_falls : {x y : ℤ} → y ≤ℤ pos 0 → x ≤ℤ y → nat_abs y ≤ nat_abs x
-natAbs_falls {x} {y} h k = simp (natAbs_neg x, natAbs_neg y) at (natAbs_mono (neg_flips h) (neg_flips k))
+pub nat_abs_falls : {x y : ℤ} → y ≤ℤ pos 0 → x ≤ℤ y → nat_abs y ≤ nat_abs x
+nat_abs_falls {x} {y} h k = simp (nat_abs_neg x, nat_abs_neg y) at (nat_abs_mono (neg_flips h) (neg_flips k))
 
 -- An integer that is not negative is its magnitude.
-pub natAbs_pos : {z : ℤ} → pos 0 ≤ℤ z → pos (nat_abs z) ≡ z
-natAbs_pos {z} h = pos-nat_abs z (yes_non_neg h)
+pub nat_abs_pos : {z : ℤ} → pos 0 ≤ℤ z → pos (nat_abs z) ≡ z
+nat_abs_pos {z} h = pos-nat_abs z (yes_non_neg h)
 
 -- An integer fits a signed width of b bits if its magnitude is below 2^(b − 1).
 pub fits_of : (w : Width) {z : ℤ} → nat_abs z < 2 ^ hbits w → SFits w z

@@ -72,52 +72,52 @@ pub pos_mono : {m n : ℕ} → m ≤ n → pos m ≤ℤ pos n
 pos_mono {m} {n} h = diff_le (nat m) (nat n) (omega arith)
 
 -- What a test of order answers where the order is known, and back.
-pub le_leZ : {x y : ℤ} → x ≤ℤ y → le_z x y ≡ true
-le_leZ {x} {y} h = is_true (le_z x y) h.le
+pub le_le_z : {x y : ℤ} → x ≤ℤ y → le_z x y ≡ true
+le_le_z {x} {y} h = is_true (le_z x y) h.le
 
-pub lt_leZ : {x y : ℤ} → y <ℤ x → le_z x y ≡ false
-lt_leZ {x} {y} h = is_false (le_z x y) (not_T (le_z x y) (λ t. clash_ℤ h (le_z_yes t)))
+pub lt_le_z : {x y : ℤ} → y <ℤ x → le_z x y ≡ false
+lt_le_z {x} {y} h = is_false (le_z x y) (not_T (le_z x y) (λ t. clash_ℤ h (le_z_yes t)))
 
-pub lt_ltZ : {x y : ℤ} → x <ℤ y → lt_z x y ≡ true
-lt_ltZ {x} {y} h = is_true (lt_z x y) h.lt
+pub lt_lt_z : {x y : ℤ} → x <ℤ y → lt_z x y ≡ true
+lt_lt_z {x} {y} h = is_true (lt_z x y) h.lt
 
-pub le_ltZ : {x y : ℤ} → y ≤ℤ x → lt_z x y ≡ false
-le_ltZ {x} {y} h = is_false (lt_z x y) (not_T (lt_z x y) (λ t. clash_ℤ (lt_z_yes t) h))
+pub le_lt_z : {x y : ℤ} → y ≤ℤ x → lt_z x y ≡ false
+le_lt_z {x} {y} h = is_false (lt_z x y) (not_T (lt_z x y) (λ t. clash_ℤ (lt_z_yes t) h))
 
-pub leZ_true : (x y : ℤ) → le_z x y ≡ true → x ≤ℤ y
-leZ_true x y e = le_z_yes (subst T (sym e) tt)
+pub le_z_true : (x y : ℤ) → le_z x y ≡ true → x ≤ℤ y
+le_z_true x y e = le_z_yes (subst T (sym e) tt)
 
-pub leZ_false : (x y : ℤ) → le_z x y ≡ false → y <ℤ x
-leZ_false x y e = ⊎_elim (λ h. absurd (subst T e h.le)) (λ k. k) (≤ℤ_total x y)
+pub le_z_false : (x y : ℤ) → le_z x y ≡ false → y <ℤ x
+le_z_false x y e = ⊎_elim (λ h. absurd (subst T e h.le)) (λ k. k) (≤ℤ_total x y)
 
-pub ltZ_true : (x y : ℤ) → lt_z x y ≡ true → x <ℤ y
-ltZ_true x y e = lt_z_yes (subst T (sym e) tt)
+pub lt_z_true : (x y : ℤ) → lt_z x y ≡ true → x <ℤ y
+lt_z_true x y e = lt_z_yes (subst T (sym e) tt)
 
-pub ltZ_false : (x y : ℤ) → lt_z x y ≡ false → y ≤ℤ x
-ltZ_false x y e = lt_z_no (subst (λ (t : Bool). T (not t)) (sym e) tt)
+pub lt_z_false : (x y : ℤ) → lt_z x y ≡ false → y ≤ℤ x
+lt_z_false x y e = lt_z_no (subst (λ (t : Bool). T (not t)) (sym e) tt)
 
 -- If x − y = u − v, then a test of x and y answers as the same test of u and v.
 module _ {x y u v : ℤ} {p q r s p' q' r' s' : ℕ} (dx : Diff x p q) (dy : Diff y r s) (du : Diff u p' q') (dv : Diff v r' s')
     (e : p + s + (r' + q') ≡ p' + s' + (r + q)) where
-  pub leZ_alike : le_z x y ≡ le_z u v
-  leZ_alike =
-      ⊎_elim (λ h. le_leZ (diff_le dx dy (omega (arith, le_diff du dv h))) ∙ sym (le_leZ h))
-      (λ k. lt_leZ (diff_lt dy dx (omega (arith, lt_diff dv du k))) ∙ sym (lt_leZ k)) (≤ℤ_total u v)
+  pub le_z_alike : le_z x y ≡ le_z u v
+  le_z_alike =
+      ⊎_elim (λ h. le_le_z (diff_le dx dy (omega (arith, le_diff du dv h))) ∙ sym (le_le_z h))
+      (λ k. lt_le_z (diff_lt dy dx (omega (arith, lt_diff dv du k))) ∙ sym (lt_le_z k)) (≤ℤ_total u v)
 
-  pub ltZ_alike : lt_z x y ≡ lt_z u v
-  ltZ_alike =
-      ⊎_elim (λ h. le_ltZ (diff_le dy dx (omega (arith, le_diff dv du h))) ∙ sym (le_ltZ h))
-      (λ k. lt_ltZ (diff_lt dx dy (omega (arith, lt_diff du dv k))) ∙ sym (lt_ltZ k)) (≤ℤ_total v u)
+  pub lt_z_alike : lt_z x y ≡ lt_z u v
+  lt_z_alike =
+      ⊎_elim (λ h. le_lt_z (diff_le dy dx (omega (arith, le_diff dv du h))) ∙ sym (le_lt_z h))
+      (λ k. lt_lt_z (diff_lt dx dy (omega (arith, lt_diff du dv k))) ∙ sym (lt_lt_z k)) (≤ℤ_total v u)
 
 -- Negating both numbers turns a test round, and adding one number to both leaves it as it is.
-pub leZ_neg : (x y : ℤ) → le_z (neg_ℤ x) (neg_ℤ y) ≡ le_z y x
-leZ_neg x y = leZ_alike (⊝ var x) (⊝ var y) (var y) (var x) (omega arith)
+pub le_z_neg : (x y : ℤ) → le_z (neg_ℤ x) (neg_ℤ y) ≡ le_z y x
+le_z_neg x y = le_z_alike (⊝ var x) (⊝ var y) (var y) (var x) (omega arith)
 
-pub ltZ_neg : (x y : ℤ) → lt_z (neg_ℤ x) (neg_ℤ y) ≡ lt_z y x
-ltZ_neg x y = ltZ_alike (⊝ var x) (⊝ var y) (var y) (var x) (omega arith)
+pub lt_z_neg : (x y : ℤ) → lt_z (neg_ℤ x) (neg_ℤ y) ≡ lt_z y x
+lt_z_neg x y = lt_z_alike (⊝ var x) (⊝ var y) (var y) (var x) (omega arith)
 
-pub leZ_shift : (x y d : ℤ) → le_z (x +ℤ d) (y +ℤ d) ≡ le_z x y
-leZ_shift x y d = leZ_alike (var x ⊕ var d) (var y ⊕ var d) (var x) (var y) (omega arith)
+pub le_z_shift : (x y d : ℤ) → le_z (x +ℤ d) (y +ℤ d) ≡ le_z x y
+le_z_shift x y d = le_z_alike (var x ⊕ var d) (var y ⊕ var d) (var x) (var y) (omega arith)
 
-pub ltZ_shift : (x y d : ℤ) → lt_z (x +ℤ d) (y +ℤ d) ≡ lt_z x y
-ltZ_shift x y d = ltZ_alike (var x ⊕ var d) (var y ⊕ var d) (var x) (var y) (omega arith)
+pub lt_z_shift : (x y d : ℤ) → lt_z (x +ℤ d) (y +ℤ d) ≡ lt_z x y
+lt_z_shift x y d = lt_z_alike (var x ⊕ var d) (var y ⊕ var d) (var x) (var y) (omega arith)

@@ -7,7 +7,7 @@ use native.Mathlib.Omega.{arith}
 use lib.IntN.{ℤ, pos, ◌-ℤ◌}
 use lib.ListN.{length}
 use lib.Signed.{◌≤ℤ◌, ◌<ℤ◌, ≤ℤ_refl, clash_ℤ}
-use Rattle.integers.proofs.Order.{≤ℤ_total, le_leZ, lt_leZ, lt_ltZ, le_ltZ}
+use Rattle.integers.proofs.Order.{≤ℤ_total, le_le_z, lt_le_z, lt_lt_z, le_lt_z}
 use Rattle.rules.specs.declared.Limit.{Limit}
 use Rattle.rules.specs.declared.Limit.TheVariants.{Absent, At}
 use Rattle.rules.specs.declared.Percentages.{Percentages}
@@ -43,18 +43,18 @@ module _ (column : List ℕ) (xs : List ℤ) (beyond : Ratio) (d : ℤ) (is : Is
   v = spread (totals (length xs) xs)
 
   inside : pos 0 ≤ℤ d → side nearest column n v d ≡ pos (reached nearest column n v d)
-  inside h = side_inside nearest column n v d (le_leZ h)
+  inside h = side_inside nearest column n v d (le_le_z h)
 
   outside : d <ℤ pos 0 → side nearest column n v d ≡ pos 10000 -ℤ pos (reached nearest column n v d)
-  outside h = side_outside nearest column n v d (lt_leZ h)
+  outside h = side_outside nearest column n v d (lt_le_z h)
 
   -- where V is above 0
   at_the_row : pos 0 <ℤ v → reached nearest column n v d ≡ entry column (nearest n v d)
-  at_the_row above = reached_entry nearest column n v d (lt_ltZ above)
+  at_the_row above = reached_entry nearest column n v d (lt_lt_z above)
 
   -- where all readings are equal
   whole_side : AllEqual xs → reached nearest column n v d ≡ 10000
-  whole_side e = reached_whole nearest column n v d (le_ltZ (subst (λ (z : ℤ). z ≤ℤ pos 0) (sym ((spread_zero_exactly_when_equal xs).1 e)) (≤ℤ_refl _)))
+  whole_side e = reached_whole nearest column n v d (le_lt_z (subst (λ (z : ℤ). z ≤ℤ pos 0) (sym ((spread_zero_exactly_when_equal xs).1 e)) (≤ℤ_refl _)))
 
   pub side_is_published : SideAsPublished column beyond xs (side nearest column n v d)
   side_is_published =

@@ -7,7 +7,7 @@ use native.Mathlib.Omega.{arith}
 use lib.IntN.{ℤ, pos, negsuc, nat_abs, ◌-ℤ◌}
 use lib.Signed.{lt_z}
 use Rattle.integers.proofs.Difference.{var, nat, diff_le, le_read, arithℤ, ⊝◌, ◌⊖◌}
-use Rattle.integers.proofs.Order.{≤ℤ_trans, ltZ_false, le_ltZ}
+use Rattle.integers.proofs.Order.{≤ℤ_trans, lt_z_false, le_lt_z}
 use Rattle.integers.proofs.Magnitude.{within}
 use Rattle.rules.specs.Refusals.{outside}
 use Rattle.laws.specs.Between.{Between}
@@ -16,10 +16,10 @@ use Rattle.laws.proofs.Tests.{neither}
 pub inside : (greatest z : ℤ) → outside greatest z ≡ false → Between (pos 0) greatest z
 inside greatest z e =
     let h = neither (lt_z z (pos 0)) (lt_z greatest z) e in
-    record { low = ltZ_false z (pos 0) h.0; high = ltZ_false greatest z h.1 }
+    record { low = lt_z_false z (pos 0) h.0; high = lt_z_false greatest z h.1 }
 
 pub not_outside : {greatest z : ℤ} → Between (pos 0) greatest z → outside greatest z ≡ false
-not_outside h = rw (le_ltZ h.low, le_ltZ h.high)
+not_outside h = rw (le_lt_z h.low, le_lt_z h.high)
 
 pub between_magnitude : {least greatest : ℕ} {z : ℤ} → Between (pos least) (pos greatest) z → nat_abs z ≤ greatest
 between_magnitude {least} {greatest} h = within (≤ℤ_trans (diff_le (⊝ nat greatest) (nat least) (omega arith)) h.low) h.high

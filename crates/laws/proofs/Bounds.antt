@@ -9,8 +9,8 @@ use borrow.Author.Tests.{not-false}
 use lib.IntN.{ℤ, pos, neg_ℤ, nat_abs, ◌*ℤ◌}
 use lib.ListN.{length, drop, get_or}
 use lib.Signed.{le_z}
-use Rattle.integers.proofs.Order.{leZ_true}
-use Rattle.integers.proofs.Magnitude.{within, natAbs_add, nat_abs_mul, natAbs_less_taken}
+use Rattle.integers.proofs.Order.{le_z_true}
+use Rattle.integers.proofs.Magnitude.{within, nat_abs_add, nat_abs_mul, nat_abs_less_taken}
 use Rattle.integers.proofs.Square.{square, square_nonneg}
 use Rattle.rules.specs.declared.Totals.{Totals}
 use Rattle.rules.specs.declared.Thousandths.{Thousandths}
@@ -28,7 +28,7 @@ use Rattle.laws.proofs.Spread.{spread_never_negative}
 pub in_range_bound : (z : ℤ) → in_range z ≡ true → nat_abs z ≤ 500000
 in_range_bound z e =
     let h : (le_z (neg_ℤ (pos 500000)) z ≡ true) × (le_z z (pos 500000) ≡ true) = (and-eq-true_iff (le_z (neg_ℤ (pos 500000)) z) (le_z z (pos 500000))).0 e in
-    within {b = 500000} {z = z} (leZ_true _ _ h.0) (leZ_true _ _ h.1)
+    within {b = 500000} {z = z} (le_z_true _ _ h.0) (le_z_true _ _ h.1)
 
 -- Where a pair is not out of range, neither its upper nor its lower limit is.
 pub pair_parts : (p : Pair) → pair_out p ≡ false → (not (in_range p.upper) ≡ false) × (not (in_range p.lower) ≡ false)
@@ -63,14 +63,14 @@ reading_bound (x ∷ xs) (suc i) e h = reading_bound xs i (parts x xs e).1 (le_o
 pub sum_bound : (xs : List ℤ) → any_out xs ≡ false → nat_abs (sum xs) ≤ length xs * 500000
 unfolding sum
 sum_bound [] e = zero-le
-sum_bound (x ∷ xs) e = omega (arith, natAbs_add x (sum xs), first_bound x xs e, sum_bound xs (parts x xs e).1)
+sum_bound (x ∷ xs) e = omega (arith, nat_abs_add x (sum xs), first_bound x xs e, sum_bound xs (parts x xs e).1)
 
 pub squares_bound : (xs : List ℤ) → any_out xs ≡ false → nat_abs (squares xs) ≤ length xs * 250000000000
 unfolding squares
 squares_bound [] e = zero-le
 squares_bound (x ∷ xs) e =
     let h : nat_abs x ≤ 500000 = first_bound x xs e in
-    omega (arith, natAbs_add (x *ℤ x) (squares xs), nat_abs_mul x x, mul-le-mul h h, squares_bound xs (parts x xs e).1)
+    omega (arith, nat_abs_add (x *ℤ x) (squares xs), nat_abs_mul x x, mul-le-mul h h, squares_bound xs (parts x xs e).1)
 
 pub totals_bounded : {xs : List ℤ} {a : Totals} → Accepted xs → a ≡ totals (length xs) xs → Bounded a
 totals_bounded {xs} h e =
@@ -103,7 +103,7 @@ spread_parts {a} h =
     record {
       product = p;
       square = omega (arith, nat_abs_mul a.t a.t, mul-le-mul t t);
-      spread = le_trans (natAbs_less_taken (spread a) (pos a.n *ℤ a.z) (a.t *ℤ a.t) h.spread_not_negative (square_nonneg a.t) refl) p;
+      spread = le_trans (nat_abs_less_taken (spread a) (pos a.n *ℤ a.z) (a.t *ℤ a.t) h.spread_not_negative (square_nonneg a.t) refl) p;
     }
 
 pub spread_in_bounds : {a : Totals} {v : ℕ} → Bounded a → pos v ≡ spread a → SpreadInBounds a.n v

@@ -11,7 +11,7 @@ use lib.Seq.{take_all, drop-cons, drop-length}
 use Rattle.rules.specs.declared.Difference.{Difference}
 use Rattle.rules.specs.declared.Finding.{Finding}
 use Rattle.rules.specs.Sheet.{differ, differing, first_of, difference_numbers}
-use Rattle.integers.proofs.Order.{≤ℤ_antisym, le_ltZ, ltZ_false}
+use Rattle.integers.proofs.Order.{≤ℤ_antisym, le_lt_z, lt_z_false}
 use Rattle.laws.specs.Sheet.{Passed}
 use Rattle.laws.proofs.Tests.{neither}
 use Rattle.laws.proofs.Lists.{filled_two}
@@ -19,12 +19,12 @@ use Rattle.laws.proofs.Lists.{filled_two}
 -- ---- whether two numbers differ
 
 pub differ_true : (x y : ℤ) → differ x y ≡ true → ¬ (x ≡ y)
-differ_true x y d e = true≢false (sym d ∙ ap (differ x) (sym e) ∙ rw (le_ltZ (≤ℤ_refl x)))
+differ_true x y d e = true≢false (sym d ∙ ap (differ x) (sym e) ∙ rw (le_lt_z (≤ℤ_refl x)))
 
 pub differ_false : (x y : ℤ) → differ x y ≡ false → x ≡ y
 differ_false x y d =
     let h = neither (lt_z x y) (lt_z y x) d in
-    ≤ℤ_antisym (ltZ_false y x h.1) (ltZ_false x y h.0)
+    ≤ℤ_antisym (lt_z_false y x h.1) (lt_z_false x y h.0)
 
 pub differ_turned : (x y : ℤ) → differ y x ≡ differ x y
 differ_turned x y = or_comm (lt_z y x) (lt_z x y)

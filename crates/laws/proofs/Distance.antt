@@ -10,7 +10,7 @@ use native.Mathlib.Omega.{arith}
 use lib.IntN.{ℤ, pos, neg_ℤ, ◌+ℤ◌, ◌-ℤ◌, +ℤ_comm}
 use lib.Signed.{◌≤ℤ◌, ◌<ℤ◌, lt_z}
 use Rattle.integers.proofs.Difference.{var, nat, diff_le, le_diff, ⊝◌, ◌⊕◌, ◌⊖◌}
-use Rattle.integers.proofs.Order.{≤ℤ_trans, ≤ℤ_total, <ℤ→≤ℤ, neg_flips, pos_mono, le_leZ, lt_leZ, ltZ_true}
+use Rattle.integers.proofs.Order.{≤ℤ_trans, ≤ℤ_total, <ℤ→≤ℤ, neg_flips, pos_mono, le_le_z, lt_le_z, lt_z_true}
 use Rattle.rules.specs.Units.{hundred_percent}
 use Rattle.rules.specs.Percent.{Rule, side}
 use Rattle.laws.specs.Column.{Column}
@@ -33,7 +33,7 @@ module _ (rule : Rule) (column : List ℕ) (n : ℕ) (rows : RowRule rule n) (sh
       by : (b : Bool) → lt_z (pos 0) v ≡ b → 5000 ≤ at d
       by true e =
           rw (reached_entry rule column n v d e)
-          (omega (arith, shape.starts, shape.never_falls 0 (rule n v d) zero-le (rows.in_table v d (ltZ_true _ _ e))))
+          (omega (arith, shape.starts, shape.never_falls 0 (rule n v d) zero-le (rows.in_table v d (lt_z_true _ _ e))))
       by false e = omega (arith, reached_whole rule column n v d e)
 
   -- and grows with the row.
@@ -42,16 +42,16 @@ module _ (rule : Rule) (column : List ℕ) (n : ℕ) (rows : RowRule rule n) (sh
     where
       by : (b : Bool) → lt_z (pos 0) v ≡ b → at d ≤ at e
       by true t =
-          let above : pos 0 <ℤ v = ltZ_true _ _ t in
+          let above : pos 0 <ℤ v = lt_z_true _ _ t in
           rw (reached_entry rule column n v d t, reached_entry rule column n v e t)
           (shape.never_falls (rule n v d) (rule n v e) (h above) (rows.in_table v e above))
       by false t = rw (reached_whole rule column n v d t, reached_whole rule column n v e t) (le_refl 10000)
 
   inside : (d : ℤ) → pos 0 ≤ℤ d → percentage d ≡ pos (at d)
-  inside d h = side_inside rule column n v d (le_leZ h)
+  inside d h = side_inside rule column n v d (le_le_z h)
 
   outside : (d : ℤ) → d <ℤ pos 0 → percentage d ≡ hundred_percent -ℤ pos (at d)
-  outside d h = side_outside rule column n v d (lt_leZ h)
+  outside d h = side_outside rule column n v d (lt_le_z h)
 
   pub side_never_falls : (d e : ℤ) → d ≤ℤ e → side rule column n v d ≤ℤ side rule column n v e
   side_never_falls d e h = ⊎_elim from_inside from_outside (≤ℤ_total (pos 0) d)

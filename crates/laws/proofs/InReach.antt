@@ -6,7 +6,7 @@ use native.Mathlib.Omega.{arith}
 use borrow.Author.Tests.{not-false}
 use lib.IntN.{ℤ, pos, nat_abs}
 use Rattle.integers.proofs.Difference.{Diff, var, nat, diff_le, arithℤ, ⊝◌, ◌⊕◌, ◌⊖◌}
-use Rattle.integers.proofs.Order.{le_leZ}
+use Rattle.integers.proofs.Order.{le_le_z}
 use Rattle.integers.proofs.Magnitude.{diff_within, within_diff, within_low, within_high}
 use Rattle.rules.specs.declared.Refusal.TheVariants.{Range, Number}
 use Rattle.rules.specs.Units.{in_range}
@@ -28,7 +28,7 @@ module _ {z : ℤ} {p q : ℕ} (d : Diff z p q) where
   within_reach e = within_diff d (in_range_bound z (not-false (in_range z) e))
 
   not_far : (p ≤ q + 500000) × (q ≤ p + 500000) → not (in_range z) ≡ false
-  not_far h = let small : nat_abs z ≤ 500000 = diff_within d h in rw (le_leZ (within_low z small), le_leZ (within_high z small))
+  not_far h = let small : nat_abs z ≤ 500000 = diff_within d h in rw (le_le_z (within_low z small), le_le_z (within_high z small))
 
 module _ (mixture minimum target : ℤ) where
   -- Where refusal 5 does not apply, the minimum and the target are in reach,

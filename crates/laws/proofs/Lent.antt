@@ -8,7 +8,7 @@ use borrow.Author.Tests.{leb-true, not-false}
 use lib.Dec.{leb, eqb}
 use lib.IntN.{ℤ, pos, nat_abs, ◌+ℤ◌}
 use lib.ListN.{length}
-use Rattle.integers.proofs.Magnitude.{natAbs_add, natAbs_sub}
+use Rattle.integers.proofs.Magnitude.{nat_abs_add, nat_abs_sub}
 use Rattle.rules.specs.declared.Totals.{Totals}
 use Rattle.rules.specs.declared.Limit.{Limit}
 use Rattle.rules.specs.declared.Columned.{Columned}
@@ -51,7 +51,7 @@ pwl_small a {column} shape upper lower =
     let l : ℤ = lower_side nearest column a lower in
     let mu : nat_abs u ≤ 10000 = between_magnitude (upper_side_in_percent nearest column a rows shape upper) in
     let ml : nat_abs l ≤ 10000 = between_magnitude (lower_side_in_percent nearest column a rows shape lower) in
-    omega (arith, natAbs_add u l, natAbs_sub (u +ℤ l) (pos 10000))
+    omega (arith, nat_abs_add u l, nat_abs_sub (u +ℤ l) (pos 10000))
 
 -- the row of a lot whose totals are these
 abbrev row_of_totals : Table → Totals → Limit → Limit → Row

@@ -6,7 +6,7 @@ use mathlib.Core.List.{List}
 use Prim.Native.Nat.{ℕ}
 use lib.IntN.{ℤ, pos, ◌+ℤ◌, ◌*ℤ◌}
 use lib.ListN.{length, length-map}
-use Rattle.integers.proofs.Order.{ltZ_shift}
+use Rattle.integers.proofs.Order.{lt_z_shift}
 use Rattle.rules.specs.declared.Limit.{Limit}
 use Rattle.rules.specs.declared.Limit.TheVariants.{Absent, At}
 use Rattle.rules.specs.declared.Mean.{Mean}
@@ -33,7 +33,7 @@ none_stays amount (At u) lower = refl
 crossed_stays : (amount : ℤ) (upper lower : Limit) → crossed (moved_limit amount upper) (moved_limit amount lower) ≡ crossed upper lower
 crossed_stays amount Absent lower = refl
 crossed_stays amount (At u) Absent = refl
-crossed_stays amount (At u) (At l) = ltZ_shift u.0 l.0 amount
+crossed_stays amount (At u) (At l) = lt_z_shift u.0 l.0 amount
 
 -- ---- the rows tried
 

@@ -8,7 +8,7 @@ use lib.IntN.{ℤ, pos, neg_ℤ, ◌*ℤ◌}
 use lib.Signed.{◌<ℤ◌}
 use Rattle.integers.proofs.Difference.{var, nat, diff_lt, lt_read, ◌⊗◌}
 use Rattle.integers.proofs.Order.{<ℤ→≤ℤ}
-use Rattle.integers.proofs.Magnitude.{natAbs_mono, natAbs_falls, natAbs_neg}
+use Rattle.integers.proofs.Magnitude.{nat_abs_mono, nat_abs_falls, nat_abs_neg}
 use Rattle.integers.proofs.Square.{square, square_neg}
 use Rattle.rules.specs.Table.{last_row}
 use Rattle.rules.specs.Percent.{index_squared, admits, largest, nearest}
@@ -19,9 +19,9 @@ pub nearest_row_rule : (n : ℕ) → RowRule nearest n
 nearest_row_rule n =
     record {
       in_table = λ v d _. row_at_most n v d;
-      grows_inside = λ v d e _ inside h. row_never_falls n v d e (natAbs_mono inside h);
-      grows_outside = λ v d e _ outside h. row_never_falls n v e d (natAbs_falls (<ℤ→≤ℤ outside) h);
-      outside_not_above = λ v d _ _. row_never_falls n v d (neg_ℤ d) (omega (arith, natAbs_neg d));
+      grows_inside = λ v d e _ inside h. row_never_falls n v d e (nat_abs_mono inside h);
+      grows_outside = λ v d e _ outside h. row_never_falls n v e d (nat_abs_falls (<ℤ→≤ℤ outside) h);
+      outside_not_above = λ v d _ _. row_never_falls n v d (neg_ℤ d) (omega (arith, nat_abs_neg d));
     }
 
 index_even : (n : ℕ) (d : ℤ) → index_squared n (neg_ℤ d) ≡ index_squared n d

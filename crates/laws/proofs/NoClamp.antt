@@ -7,7 +7,7 @@ use native.Mathlib.Omega.{arith}
 use lib.IntN.{ℤ, pos, ◌+ℤ◌, ◌-ℤ◌}
 use lib.Signed.{◌≤ℤ◌, ≤ℤ_refl}
 use Rattle.integers.proofs.Difference.{var, nat, diff_le, le_diff, le_read, ◌⊕◌, ◌⊖◌, ◌⊗◌}
-use Rattle.integers.proofs.Order.{+ℤ_mono, *ℤ_mono_l, ltZ_false}
+use Rattle.integers.proofs.Order.{+ℤ_mono, *ℤ_mono_l, lt_z_false}
 use Rattle.rules.specs.declared.Limit.{Limit}
 use Rattle.rules.specs.declared.Limit.TheVariants.{Absent, At}
 use Rattle.rules.specs.declared.Percentages.{Percentages}
@@ -52,7 +52,7 @@ module _ (rule : Rule) (column : List ℕ) (a : Totals) (rows : RowRule rule a.n
   hundred_or_more Absent lower e = +ℤ_mono (≤ℤ_refl hundred_percent) (lower_in_percent lower).low
   hundred_or_more (At u) Absent e = +ℤ_mono (upper_in_percent (At u)).low (≤ℤ_refl hundred_percent)
   hundred_or_more (At u) (At l) e =
-      sides_cover rule column a.n rows shape (spread a) (upper_distance a u.0) (lower_distance a l.0) (distances_add_up a u.0 l.0 (ltZ_false _ _ e))
+      sides_cover rule column a.n rows shape (spread a) (upper_distance a u.0) (lower_distance a l.0) (distances_add_up a u.0 l.0 (lt_z_false _ _ e))
 
   sum_in_percent : (upper lower : Limit) → crossed upper lower ≡ false → InPercent ((upper_side rule column a upper +ℤ lower_side rule column a lower) -ℤ pos 10000)
   sum_in_percent upper lower e =

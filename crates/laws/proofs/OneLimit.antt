@@ -8,7 +8,7 @@ use lib.IntN.{ℤ, pos, neg_ℤ, ◌+ℤ◌, ◌*ℤ◌, neg_ℤ-neg_ℤ, +ℤ_c
 use lib.Signed.{◌≤ℤ◌, ◌<ℤ◌}
 use Rattle.integers.proofs.Difference.{var, nat, diff_eq, le_diff, arithℤ, ⊝◌, ◌⊕◌, ◌⊖◌}
 use Rattle.integers.proofs.Ring.{neg_-ℤ}
-use Rattle.integers.proofs.Order.{≤ℤ_total, <ℤ→≤ℤ, neg_flips, le_leZ, lt_leZ, lt_ltZ}
+use Rattle.integers.proofs.Order.{≤ℤ_total, <ℤ→≤ℤ, neg_flips, le_le_z, lt_le_z, lt_lt_z}
 use Rattle.rules.specs.declared.Thousandths.{Thousandths}
 use Rattle.rules.specs.declared.Limit.TheVariants.{At}
 use Rattle.rules.specs.declared.Totals.{Totals}
@@ -22,7 +22,7 @@ use Rattle.laws.proofs.Side.{reached_entry, side_inside, side_outside}
 
 module _ (rule : Rule) (column : List ℕ) (n : ℕ) (even : EvenRule rule n) (shape : Column column) (v : ℤ) (above : pos 0 <ℤ v) where
   at : (d : ℤ) → reached rule column n v d ≡ entry column (rule n v d)
-  at d = reached_entry rule column n v d (lt_ltZ above)
+  at d = reached_entry rule column n v d (lt_lt_z above)
 
   -- A distance and its opposite reach the same entry, and distance 0 reaches 50 percent.
   opposite : (d : ℤ) → reached rule column n v (neg_ℤ d) ≡ reached rule column n v d
@@ -34,7 +34,7 @@ module _ (rule : Rule) (column : List ℕ) (n : ℕ) (even : EvenRule rule n) (s
   inside_and_out : (d : ℤ) → d <ℤ pos 0 → side rule column n v d +ℤ side rule column n v (neg_ℤ d) ≡ hundred_percent
   inside_and_out d out =
       let i : pos 0 ≤ℤ neg_ℤ d = neg_flips (<ℤ→≤ℤ out) in
-      rw (side_outside rule column n v d (lt_leZ out), side_inside rule column n v (neg_ℤ d) (le_leZ i), opposite d)
+      rw (side_outside rule column n v d (lt_le_z out), side_inside rule column n v (neg_ℤ d) (le_le_z i), opposite d)
       (diff_eq (nat 10000 ⊖ nat (reached rule column n v d) ⊕ nat (reached rule column n v d)) (nat 10000) (omega arith))
 
   at_zero : (d : ℤ) → d ≡ pos 0 → side rule column n v d +ℤ side rule column n v (neg_ℤ d) ≡ hundred_percent

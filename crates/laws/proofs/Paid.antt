@@ -4,7 +4,7 @@ use Prim.Native.Nat.{◌*◌}
 use lib.IntN.{ℤ, pos, negsuc}
 use lib.Signed.{◌≤ℤ◌, ≤ℤ_refl}
 use Rattle.integers.proofs.Order.{+ℤ_mono, *ℤ_mono_l}
-use Rattle.integers.proofs.Division.{quotZ_mono}
+use Rattle.integers.proofs.Division.{quot_z_mono}
 use Rattle.rules.specs.declared.Payment.{Payment}
 use Rattle.rules.specs.Said.{answers}
 use Rattle.rules.specs.Pay.{factor, weighted, composite, final_pay, payment}
@@ -29,12 +29,12 @@ module _ {vma voids density vma' voids' density' : ℤ} (h : vma ≤ℤ vma') (i
 
   pub composite_is_not_lower : composite (weighted vma voids density) ≤ℤ composite (weighted vma' voids' density')
   unfolding composite
-  composite_is_not_lower = quotZ_mono _ (+ℤ_mono weighted_is_not_lower (≤ℤ_refl _))
+  composite_is_not_lower = quot_z_mono _ (+ℤ_mono weighted_is_not_lower (≤ℤ_refl _))
 
 -- A composite that is not lower never lowers the final pay, for a price and a quantity that are not negative.
 pub final_pay_is_not_lower : {price quantity c c' : ℤ} → pos 0 ≤ℤ price → pos 0 ≤ℤ quantity → c ≤ℤ c' → final_pay price quantity c ≤ℤ final_pay price quantity c'
 unfolding final_pay
-final_pay_is_not_lower {price = pos p} {quantity = pos q} h k low = quotZ_mono _ (+ℤ_mono (*ℤ_mono_l (p * q) low) (≤ℤ_refl _))
+final_pay_is_not_lower {price = pos p} {quantity = pos q} h k low = quot_z_mono _ (+ℤ_mono (*ℤ_mono_l (p * q) low) (≤ℤ_refl _))
 final_pay_is_not_lower {price = pos p} {quantity = negsuc q} h k low = absurd k.le
 final_pay_is_not_lower {price = negsuc p} h k low = absurd h.le
 

@@ -6,7 +6,7 @@ use native.Mathlib.Omega.{arith}
 use lib.Dec.{T}
 use lib.IntN.{ℤ, pos, nat_abs}
 use lib.ListN.{length}
-use Rattle.integers.proofs.Magnitude.{natAbs_pos}
+use Rattle.integers.proofs.Magnitude.{nat_abs_pos}
 use Rattle.rules.specs.Percent.{totals, spread}
 use Rattle.rules.specs.Deviation.{is_deviation, deviation}
 use Rattle.rules.specs.Entries.{deviation_of}
@@ -28,7 +28,7 @@ deviation_is_nearest xs some = rw (sym whole) (record { low = midpoint_up_to is 
     w = nat_abs (spread (totals (length xs) xs))
 
     whole : pos w ≡ spread (totals (length xs) xs)
-    whole = natAbs_pos (spread_never_negative xs)
+    whole = nat_abs_pos (spread_never_negative xs)
 
     s : ℕ
     s = deviation n (pos w)

@@ -12,7 +12,7 @@ use lib.Signed.{◌<ℤ◌}
 use Rattle.integers.proofs.Difference.{var, nat, diff_eq, lt_read, ◌⊗◌}
 use Rattle.integers.proofs.Ring.{*ℤ_assoc}
 use Rattle.integers.proofs.Order.{<ℤ→≤ℤ}
-use Rattle.integers.proofs.Magnitude.{natAbs_parts, nat_abs_mul, natAbs_pos}
+use Rattle.integers.proofs.Magnitude.{nat_abs_parts, nat_abs_mul, nat_abs_pos}
 use Rattle.integers.proofs.Square.{square, square_nat, signed, signed_<}
 use Rattle.rules.specs.Percent.{sum, totals, spread, upper_distance, lower_distance}
 use Rattle.laws.specs.Ratio.{Ratio, whole, minus, Is}
@@ -73,14 +73,14 @@ module _ (xs : List ℤ) where
     some = spread_needs_two xs above
 
     some_spread : 1 ≤ nat_abs v
-    some_spread = omega (arith, natAbs_parts v, lt_read above)
+    some_spread = omega (arith, nat_abs_parts v, lt_read above)
 
     -- with its sign
     signed_is : Is q.square (d *ℤ pos (nat_abs d) *ℤ pos (n - 1)) (n * nat_abs v)
     signed_is =
         let w : ℕ = nat_abs v in
         let x : ℤ = d *ℤ pos (nat_abs d) in
-        let s : Is (published_deviation xs).square (pos w) (n * (n - 1)) = rw (natAbs_pos (<ℤ→≤ℤ above)) (variance_is some) in
+        let s : Is (published_deviation xs).square (pos w) (n * (n - 1)) = rw (nat_abs_pos (<ℤ→≤ℤ above)) (variance_is some) in
         is_also (is_quotient some_spread (is_signed_square is) s) (mul-pos is.over some_spread)
         (*ℤ_assoc x (pos (n * (n - 1))) (pos (n * w)) ∙ ap (λ (k : ℕ). x *ℤ pos k) (omega arith) ∙ sym (*ℤ_assoc x (pos (n - 1)) (pos (n * n * w))))
 

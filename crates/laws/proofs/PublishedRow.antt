@@ -9,7 +9,7 @@ use lib.ListN.{length}
 use lib.Signed.{◌<ℤ◌}
 use Rattle.integers.proofs.Difference.{le_read, lt_read}
 use Rattle.integers.proofs.Order.{<ℤ→≤ℤ}
-use Rattle.integers.proofs.Magnitude.{natAbs_pos}
+use Rattle.integers.proofs.Magnitude.{nat_abs_pos}
 use Rattle.integers.proofs.Square.{square, square_nat}
 use Rattle.rules.specs.declared.Totals.{Totals}
 use Rattle.rules.specs.Percent.{totals, spread, upper_distance, lower_distance, nearest}
@@ -43,7 +43,7 @@ module _ (xs : List ℤ) (above : pos 0 <ℤ spread (totals (length xs) xs)) (be
   squared = rw (square_nat d) at (index_squared_is xs above beyond d is)
 
   encloses : (k : ℕ) → nearest n v d ≡ k → Encloses n (pos (nat_abs v)) d k
-  encloses k e = rw (natAbs_pos (<ℤ→≤ℤ above)) ((row_exactly_when_enclosing n v d (<ℤ→≤ℤ above) k).0 e)
+  encloses k e = rw (nat_abs_pos (<ℤ→≤ℤ above)) ((row_exactly_when_enclosing n v d (<ℤ→≤ℤ above) k).0 e)
 
   pub row_is_between_midpoints : (k : ℕ) → nearest n v d ≡ k → BetweenMidpoints q k
   unfolding square

@@ -8,7 +8,7 @@ use native.Mathlib.Omega.{arith}
 use lib.Dec.{eqb-suc-zero}
 use lib.IntN.{ℤ, pos, negsuc, nat_abs, ◌*ℤ◌}
 use lib.Signed.{◌≤ℤ◌, ◌<ℤ◌, le_z, ≤ℤ_refl}
-use Rattle.integers.proofs.Order.{≤ℤ_trans, pos_mono, *ℤ_mono_l, le_leZ, lt_leZ, leZ_true, leZ_false}
+use Rattle.integers.proofs.Order.{≤ℤ_trans, pos_mono, *ℤ_mono_l, le_le_z, lt_le_z, le_z_true, le_z_false}
 use Rattle.integers.proofs.Square.{square, square_nat, square_mono}
 use Rattle.rules.specs.Table.{last_row}
 use Rattle.rules.specs.Percent.{index_squared, midpoint_squared, admits, nearest}
@@ -46,8 +46,8 @@ admits_stays : (n : ℕ) (v d e : ℤ) (j k : ℕ) → j ≤ k → midpoint_squa
 admits_stays n v d e zero k low m i there = first_admitted n v e
 admits_stays n v d e (suc j) zero low m i there = absurd (omega arith)
 admits_stays n v d e (suc j) (suc k) low m i there =
-    let reached : midpoint_squared n v (suc k) ≤ℤ index_squared n d = leZ_true _ _ (sym (admits_next n v d k) ∙ there) in
-    admits_next n v e j ∙ le_leZ (≤ℤ_trans m (≤ℤ_trans reached i))
+    let reached : midpoint_squared n v (suc k) ≤ℤ index_squared n d = le_z_true _ _ (sym (admits_next n v d k) ∙ there) in
+    admits_next n v e j ∙ le_le_z (≤ℤ_trans m (≤ℤ_trans reached i))
 
 -- For V of 0 or more, every row below an admitted row is admitted.
 pub admits_below : (n : ℕ) (v d : ℤ) → pos 0 ≤ℤ v → (j k : ℕ) → j ≤ k → admits n v d k ≡ true → admits n v d j ≡ true
@@ -75,15 +75,15 @@ module _ (n : ℕ) (v d : ℤ) where
   unfolding midpoint_squared index_squared
   below zero = (λ _. inl refl, λ _. first_admitted n v d)
   below (suc k) = (
-    λ here. inr (leZ_true _ _ (sym (admits_next n v d k) ∙ here)),
-    ⊎_elim (λ e. absurd (omega arith)) (λ low. admits_next n v d k ∙ le_leZ low),
+    λ here. inr (le_z_true _ _ (sym (admits_next n v d k) ∙ here)),
+    ⊎_elim (λ e. absurd (omega arith)) (λ low. admits_next n v d k ∙ le_le_z low),
   )
 
   above : (k : ℕ) → (admits n v d (suc k) ≡ false) ↔ ((pos (1600 * (n - 1)) *ℤ (d *ℤ d)) <ℤ (pos ((2 * k + 1) * (2 * k + 1) * n) *ℤ v))
   unfolding midpoint_squared index_squared
   above k = (
-    λ there. rw odd (leZ_false _ _ (sym (admits_next n v d k) ∙ there)),
-    λ h. admits_next n v d k ∙ lt_leZ (rw odd at h),
+    λ there. rw odd (le_z_false _ _ (sym (admits_next n v d k) ∙ there)),
+    λ h. admits_next n v d k ∙ lt_le_z (rw odd at h),
   )
     where
       odd : 2 * k + 1 ≡ 2 * suc k - 1

@@ -6,7 +6,7 @@ use mathlib.Core.Logic.{◌⊎◌, inl, inr, ⊎_elim, ◌↔◌}
 use Prim.Native.Nat.{ℕ}
 use native.Mathlib.Omega.{arith}
 use lib.IntN.{ℤ, pos}
-use Rattle.integers.proofs.Order.{≤ℤ_trans, pos_mono, ltZ_true, lt_ltZ}
+use Rattle.integers.proofs.Order.{≤ℤ_trans, pos_mono, lt_z_true, lt_lt_z}
 use Rattle.rules.specs.declared.Verdict.{Verdict}
 use Rattle.rules.specs.declared.Verdict.TheVariants.{Accepted, Rejected}
 use Rattle.rules.specs.declared.Payment.{Payment}
@@ -27,7 +27,7 @@ use Rattle.laws.proofs.HalfUp.{half_up_determined}
 -- ---- verdicts, by their tests
 
 tested : (z : ℤ) → (rejected z ≡ true) ↔ Below z
-tested z = (ltZ_true z (pos 5000), lt_ltZ)
+tested z = (lt_z_true z (pos 5000), lt_lt_z)
 
 any_of : {A B C : Type 0} (s t u : Bool) → (s ≡ true) ↔ A → (t ≡ true) ↔ B → (u ≡ true) ↔ C → ((s || t || u) ≡ true) ↔ (A ⊎ B ⊎ C)
 any_of true t u h k l = (λ _. inl (h.0 refl), λ _. refl)

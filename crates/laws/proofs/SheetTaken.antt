@@ -8,7 +8,7 @@ use lib.IntN.{ℤ, pos, negsuc, nat_abs}
 use lib.Signed.{le_z_yes}
 use lib.ListN.{get_or}
 use Rattle.integers.proofs.Order.{≤ℤ_trans, pos_mono}
-use Rattle.integers.proofs.Division.{quotZ_mono}
+use Rattle.integers.proofs.Division.{quot_z_mono}
 use Rattle.rules.specs.declared.Verdict.{Verdict}
 use Rattle.rules.specs.declared.Sheet.{Sheet}
 use Rattle.rules.specs.Pay.{final_pay, payment}
@@ -81,8 +81,8 @@ final_pay_lies_between {p = pos p} {q = pos q} {c = pos c} h =
     let whole : p * q ≤ 1000000000000000 = mul-le-mul (between_magnitude h.price) (between_magnitude h.quantity) in
     let paid : p * q * c ≤ 1030000000000000000 = mul-le-mul whole (between_magnitude h.composite) in
     record {
-      low = quotZ_mono 100000 {x = pos 0} {y = pos (p * q * c + 50000)} (pos_mono (omega arith));
-      high = quotZ_mono 100000 {x = pos (p * q * c + 50000)} {y = pos 1030000000000050000} (pos_mono (omega arith));
+      low = quot_z_mono 100000 {x = pos 0} {y = pos (p * q * c + 50000)} (pos_mono (omega arith));
+      high = quot_z_mono 100000 {x = pos (p * q * c + 50000)} {y = pos 1030000000000050000} (pos_mono (omega arith));
     }
 final_pay_lies_between {p = pos p} {q = pos q} {c = negsuc c} h = absurd h.composite.low.le
 final_pay_lies_between {p = pos p} {q = negsuc q} h = absurd h.quantity.low.le

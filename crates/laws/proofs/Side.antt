@@ -8,7 +8,7 @@ use Prim.Native.Nat.{ℕ, ◌≤◌, zero-le}
 use native.Mathlib.Nat.{le_refl}
 use native.Mathlib.Omega.{arith}
 use Rattle.integers.proofs.Difference.{nat, diff_le, ◌⊖◌}
-use Rattle.integers.proofs.Order.{pos_mono, ltZ_true}
+use Rattle.integers.proofs.Order.{pos_mono, lt_z_true}
 use Rattle.rules.specs.declared.Limit.{Limit}
 use Rattle.rules.specs.declared.Limit.TheVariants.{Absent, At}
 use Rattle.rules.specs.declared.Totals.{Totals}
@@ -44,7 +44,7 @@ module _ (rule : Rule) (column : List ℕ) (n : ℕ) (v d : ℤ) where
   reached_at_most h shape = by (lt_z (pos 0) v) refl
     where
       by : (b : Bool) → lt_z (pos 0) v ≡ b → reached rule column n v d ≤ 10000
-      by true e = rw (reached_entry e) (entry_at_most shape (h (ltZ_true _ _ e)))
+      by true e = rw (reached_entry e) (entry_at_most shape (h (lt_z_true _ _ e)))
       by false e = rw (reached_whole e) (le_refl 10000)
 
   -- The side is what it reaches, or 10,000 less that where its distance is below 0.

@@ -6,7 +6,7 @@ use native.Mathlib.Omega.{arith}
 use lib.IntN.{ℤ, pos}
 use lib.Signed.{lt_z}
 use Rattle.integers.proofs.Difference.{var, nat, diff_le, ◌⊕◌, ◌⊖◌}
-use Rattle.integers.proofs.Order.{le_ltZ}
+use Rattle.integers.proofs.Order.{le_lt_z}
 use Rattle.rules.specs.declared.Pair.{Pair}
 use Rattle.rules.specs.declared.MixtureLimits.{MixtureLimits}
 use Rattle.rules.specs.declared.MixtureAnswer.{MixtureAnswer}
@@ -47,7 +47,7 @@ mixture_limits_are_taken mixture minimum target l e =
     let all_in_range = neither (pair_out (vma_pair minimum)) (pair_out (voids_pair target)) first.0 in
     let number = inside (pos 3) mixture (none_met (mixture_case mixture) [] first.1).0 in
     rw (← given.1) (
-      taken (vma_pair minimum) all_in_range.0 (le_ltZ (diff_le (var minimum ⊖ nat (offset_below vma_pair)) (var minimum ⊕ nat (offset_above vma_pair)) (omega arith))),
-      taken (voids_pair target) all_in_range.1 (le_ltZ (diff_le (var target ⊖ nat (offset_below voids_pair)) (var target ⊕ nat (offset_above voids_pair)) (omega arith))),
+      taken (vma_pair minimum) all_in_range.0 (le_lt_z (diff_le (var minimum ⊖ nat (offset_below vma_pair)) (var minimum ⊕ nat (offset_above vma_pair)) (omega arith))),
+      taken (voids_pair target) all_in_range.1 (le_lt_z (diff_le (var target ⊖ nat (offset_below voids_pair)) (var target ⊕ nat (offset_above voids_pair)) (omega arith))),
       density_taken mixture number,
     )

@@ -5,7 +5,7 @@ use Prim.Native.Nat.{ℕ, ◌≤◌}
 use lib.IntN.{ℤ, pos}
 use lib.ListN.{get_or, length}
 use lib.Signed.{lt_z}
-use Rattle.integers.proofs.Order.{<ℤ→≤ℤ, lt_ltZ}
+use Rattle.integers.proofs.Order.{<ℤ→≤ℤ, lt_lt_z}
 use Rattle.rules.specs.declared.Limit.{Limit}
 use Rattle.rules.specs.declared.Limit.TheVariants.{Absent, At}
 use Rattle.rules.specs.Percent.{totals, spread}
@@ -32,12 +32,12 @@ module _ (xs : List ℤ) (beyond : Ratio) (d : ℤ) (is : Is beyond d (length xs
         at_least_five =
             λ unequal.
             let above = (spread_above_exactly_when_unequal xs).1 unequal in
-            rw (tried_where_spread n v d (lt_ltZ above)) (handheld_tries_five_or_six n v d).0;
+            rw (tried_where_spread n v d (lt_lt_z above)) (handheld_tries_five_or_six n v d).0;
         at_most_six = tried_at_most_six n v d;
         by_the_row =
             λ unequal k near.
             let above = (spread_above_exactly_when_unequal xs).1 unequal in
-            tried_where_spread n v d (lt_ltZ above)
+            tried_where_spread n v d (lt_lt_z above)
             ∙ tries_go_by_the_row n v d (<ℤ→≤ℤ above)
             ∙ ap (λ (row : ℕ). get_or tries_by_row row 0) ((row_is_nearest xs above beyond d is k).1 near);
       }

@@ -5,7 +5,7 @@ use mathlib.Core.List.{List, [], ◌∷◌, map}
 use Prim.Native.Nat.{ℕ}
 use lib.IntN.{ℤ, pos, neg_ℤ, ◌+ℤ◌, ◌-ℤ◌, +ℤ_comm}
 use lib.Signed.{le_z}
-use Rattle.integers.proofs.Order.{leZ_neg, ltZ_neg}
+use Rattle.integers.proofs.Order.{le_z_neg, lt_z_neg}
 use Rattle.rules.specs.declared.Limit.{Limit}
 use Rattle.rules.specs.declared.Limit.TheVariants.{Absent, At}
 use Rattle.rules.specs.declared.Percentages.{Percentages}
@@ -27,7 +27,7 @@ use Rattle.laws.proofs.TurnedTotals.{spread_turned, upper_distance_turned, lower
 
 in_range_turned : (z : ℤ) → in_range (neg_ℤ z) ≡ in_range z
 in_range_turned z =
-    ap₂ (λ (a b : Bool). a && b) (leZ_neg (pos 500000) z) (leZ_neg z (neg_ℤ (pos 500000))) ∙ and_comm (le_z z (pos 500000)) (le_z (neg_ℤ (pos 500000)) z)
+    ap₂ (λ (a b : Bool). a && b) (le_z_neg (pos 500000) z) (le_z_neg z (neg_ℤ (pos 500000))) ∙ and_comm (le_z z (pos 500000)) (le_z (neg_ℤ (pos 500000)) z)
 
 limit_turned : (limit : Limit) → out_of_range (turned_limit limit) ≡ out_of_range limit
 limit_turned Absent = refl
@@ -48,7 +48,7 @@ crossed_turned : (upper lower : Limit) → crossed (turned_limit lower) (turned_
 crossed_turned Absent Absent = refl
 crossed_turned Absent (At l) = refl
 crossed_turned (At u) Absent = refl
-crossed_turned (At u) (At l) = ltZ_neg l.0 u.0
+crossed_turned (At u) (At l) = lt_z_neg l.0 u.0
 
 limits_turned : (upper lower : Limit) → (out_of_range (turned_limit lower) || out_of_range (turned_limit upper)) ≡ (out_of_range upper || out_of_range lower)
 limits_turned upper lower = rw (limit_turned lower, limit_turned upper) (or_comm (out_of_range lower) (out_of_range upper))

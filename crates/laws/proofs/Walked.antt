@@ -10,7 +10,7 @@ use lib.IntN.{ℤ, pos, nat_abs, ◌+ℤ◌, ◌*ℤ◌}
 use lib.ListN.{length, drop, get_or}
 use lib.Seq.{drop-cons, drop-length}
 use Rattle.integers.proofs.Difference.{var, nat, diff_eq, ◌⊕◌}
-use Rattle.integers.proofs.Magnitude.{natAbs_add, nat_abs_mul}
+use Rattle.integers.proofs.Magnitude.{nat_abs_add, nat_abs_mul}
 use Rattle.rules.specs.declared.Totals.{Totals}
 use Rattle.rules.specs.declared.TotalsAnswer.{TotalsAnswer}
 use Rattle.rules.specs.declared.Refusal.{Refusal}
@@ -85,8 +85,8 @@ module _ (xs : List ℤ) (i : ℕ) (here : i < length xs) where
         squares =
             w.squares ∙ ap (λ (l : List ℤ). a.z +ℤ squares l) left
             ∙ diff_eq (var a.z ⊕ (var (x *ℤ x) ⊕ var (squares rest))) (var (x *ℤ x) ⊕ var a.z ⊕ var (squares rest)) (omega arith);
-        sum_small = omega (arith, natAbs_add x a.t, w.sum_small);
-        squares_small = omega (arith, natAbs_add (x *ℤ x) a.z, nat_abs_mul x x, mul-le-mul bound bound, w.squares_small);
+        sum_small = omega (arith, nat_abs_add x a.t, w.sum_small);
+        squares_small = omega (arith, nat_abs_add (x *ℤ x) a.z, nat_abs_mul x x, mul-le-mul bound bound, w.squares_small);
       })
 
   pub walk_goes_on : {a b : Totals} {t : TotalsAnswer} → Walked xs i a → totals_said t ≡ pass_says a x → t ≡ TotalsAnswer.Answers b → Walked xs (i + 1) b

@@ -2,7 +2,7 @@
 use Rattle.std.proofs.Common.{ℤ, pos, ◌+ℤ◌, ◌*ℤ◌, ◌≤◌, w64, FitsSigned, arith, rules}
 use native.Mathlib.Nat.{mul-le-mul}
 use lib.IntN.{nat_abs}
-use Rattle.integers.proofs.Magnitude.{natAbs_add, nat_abs_mul, fits_of}
+use Rattle.integers.proofs.Magnitude.{nat_abs_add, nat_abs_mul, fits_of}
 use Rattle.rules.specs.Pay.{final_pay}
 use Rattle.laws.specs.Payable.{Priced}
 use Rattle.laws.proofs.Between.{between_magnitude}
@@ -23,7 +23,7 @@ fits p q c h =
     record {
       whole = fits_of w64 (omega arith);
       paid = fits_of w64 (omega arith);
-      sum = fits_of w64 (omega (arith, natAbs_add (p *ℤ q *ℤ c) (pos 50000)));
+      sum = fits_of w64 (omega (arith, nat_abs_add (p *ℤ q *ℤ c) (pos 50000)));
     }
 
 pub overflow_mul-result-2 : goal.overflow_mul-result-2

@@ -5,7 +5,7 @@ use native.Mathlib.Numerals.{add-one}
 use mir.Syntax.{w64}
 use mir.Val.{to_z, of_z}
 use mir.Facts.{to_z-of_z, to_z_pos}
-use Rattle.integers.proofs.Magnitude.{natAbs_sub, fits_of}
+use Rattle.integers.proofs.Magnitude.{nat_abs_sub, fits_of}
 use Rattle.rules.specs.Sheet.{differ, differing}
 use Rattle.laws.specs.Sheet.{Passed, Entered}
 use Rattle.laws.proofs.Differences.{same_passed, next_difference, difference_is_there, difference_passed, all_passed, Filled, difference_filled, differences_filled}
@@ -34,7 +34,7 @@ module _ (xs ys : List ℤ) (i items : ℕ) (here : i < length xs) (there : i < 
 
 -- The numbers are so small that their difference fits.
 difference_fits : (xs ys : List ℤ) (i : ℕ) → Entered xs → Entered ys → SFits w64 (get_or xs i (pos 0) -ℤ get_or ys i (pos 0))
-difference_fits xs ys i f g = fits_of w64 (omega (arith, natAbs_sub (get_or xs i (pos 0)) (get_or ys i (pos 0)), f.bounded i, g.bounded i))
+difference_fits xs ys i f g = fits_of w64 (omega (arith, nat_abs_sub (get_or xs i (pos 0)) (get_or ys i (pos 0)), f.bounded i, g.bounded i))
 
 pub put-requires : goal.put-requires
 put-requires c =

@@ -12,6 +12,7 @@ use rules::{ListAnswer, Refusal};
 const LONGEST_JOB: usize = 4096;
 
 // How many lots there are: none, one, and from eight sublots on the whole part of (sublots + 2)/10.
+#[tactic(auto, using(laws::proofs::JobLots::no_lots, laws::proofs::JobLots::one_lot, laws::proofs::JobLots::lots_by_ten))]
 fn lots(sublots: usize) -> usize
     requires { sublots ≤ longest_job }
     ensures { result ≡ length (cut sublots) }

@@ -9,8 +9,8 @@ WIDE, HIGH, GAP, FLOOR, MARGIN = 92, 26, 18, 58, 14
 
 
 def dependencies(root):
-    """Of each crate that crates.txt lists, those that its line names."""
-    return {name: words.split() for name, words in re.findall(r"^(\w+):(.*)", (root / "crates.txt").read_text("utf-8"), re.M)}
+    """Of each crate that crates.txt lists, those that its line names; a line may say that the crate is a static library."""
+    return {name: words.split() for name, words in re.findall(r"^(\w+)(?: +staticlib)?:(.*)", (root / "crates.txt").read_text("utf-8"), re.M)}
 
 
 def reached(listed, crate):

@@ -1,10 +1,11 @@
 """Plants each edit that must be refused, tries it, and says of each whether it is; the last line is `N passed, M failed`.
 
-`python3 tests/planted.py [NAME..]` tries every edit of must-fail/ and must-not-compile/, or those named `CRATE/LABEL`; those that the kit plants by
-itself are tried too where they are named. An edit is planted in a copy of the crates and proved over an incremental folder, which holds what is
-proved of the tree as it stands: so only what the edit reaches is proved again. That folder is laid anew for each edit, from the libraries
-that are proved under target/, and no edit sees what another left.
+`python3 tests/planted.py [NAME..]` tries every edit of must-fail/, of crates/*/must-fail/ and of must-not-compile/, or those named `CRATE/LABEL`. First
+`rt all check` proves what is not proved yet, over what earlier checks kept: a crate that is not proved counts as a failure. An edit is planted in a copy
+of the crates and proved over an incremental folder, which holds what is proved of the tree as it stands: so only what the edit reaches is proved again.
+That folder is laid anew for each edit, and no edit sees what another left.
 """
+import contextlib
 import os
 import re
 import shutil
@@ -17,11 +18,13 @@ from collections import namedtuple
 from concurrent.futures import ThreadPoolExecutor
 from pathlib import Path
 
-from edits import bodies, edited, every_edit, fell_elsewhere, kind_edits, not_a_fact, own_edits, refused_in, touched, without
+from edits import bodies, edited, every_edit, fell_elsewhere, from_the_root, kind_edits, not_a_fact, reaching, refused_in, touched, without
 from house import dependencies, reached
 
 ROOT = Path(__file__).resolve().parent.parent
-# As many as the kit's own jobs.
+# Where the kit is, by its command.
+KIT = Path(shutil.which("rt") or "rt").resolve().parent.parent
+# A check takes one processor.
 WORKERS = min(4, os.cpu_count() or 1)
 
 Trial = namedtuple("Trial", "edit why log seconds")
@@ -32,22 +35,38 @@ def passed_as_source(listed, crate, edits):
     return sorted(name for name in reached(listed, crate) - {crate} if edits & reached(listed, name))
 
 
+def laid(start, to):
+    """Copies what a check kept. Another command may replace a file of it meanwhile: what is missing is proved again."""
+    def copy(one, other):
+        with contextlib.suppress(FileNotFoundError):
+            shutil.copyfile(one, other)
+    shutil.copytree(start, to, copy_function=copy, dirs_exist_ok=True)
+
+
 class Proved:
-    """What is proved of a tree as it stands, in incremental folders that each edit starts from."""
+    """What is proved of a tree as it stands: its libraries, and the incremental folders that each edit starts from."""
 
     def __init__(self, root, folder):
-        self.root, self.folder, self.locks, self.lock = root, Path(folder).resolve(), {}, threading.Lock()
+        self.root, self.folder, self.locks, self.lock, self.lost = root, Path(folder).resolve(), {}, threading.Lock(), {}
         self.listed, self.nothing = dependencies(root), self.folder / "nothing"
+        self.static = set(re.findall(r"^(\w+) +staticlib\b", (root / "crates.txt").read_text("utf-8"), re.M))
         self.nothing.mkdir()
 
-    def seed(self, name, where):
-        """Puts what is proved of a library into an incremental folder: what a check there keeps, and what a library carries, are the same files."""
-        library = self.root / f"target/rlib/{name}.rlib"
-        head, checked = library / "format", library / "toolchain/checked"
-        build = re.search(r"^rattle-build (\S+)", head.read_text("utf-8"), re.M) if head.exists() and checked.exists() else None
-        # without it the first check proves the crate from nothing, and is the longer for it
-        if build:
-            shutil.copytree(checked, where / build[1].replace("/", "_"), dirs_exist_ok=True)
+    def library(self, name):
+        """Where a library is that stands as it is: the repository's own, or the kit's."""
+        return self.root / f"crates/{name}/out/rlib/{name}.rlib" if name in self.listed else KIT / f"rlibs/{name}.rlib"
+
+    def words(self, crate, sources, where):
+        """The words of a check of a crate in a copy, with some others as source."""
+        below = reached(self.listed, crate) - {crate}
+        named = {"std"}.union(*(self.listed[name] for name in [crate, *sources]))
+        words = ["--crate-name", crate, "src/main.rt" if (where / "crates" / crate / "src/main.rt").exists() else "src/lib.rt"]
+        for name in sorted(named | set(sources)):
+            words += ["--lib", f"{name}={where}/crates/{name}/src/lib.rt"] if name in sources else ["--extern", f"{name}={self.library(name)}"]
+        for folder in KIT / "rlibs", *(self.library(name).parent for name in sorted(below - set(sources))):
+            words += ["-L", f"dependency={folder}"]
+        words += ["--antt-project", str(KIT / "rattle/logic/antt-project.json"), "--logic-built", str(KIT / "logic_built"), "--links", f"{crate}="]
+        return words + (["--crate-type", "staticlib"] if crate in self.static else [])
 
     def of(self, bench, crate, sources):
         """The folder for a check of a crate with some others as source. It is made once, by a check without an edit, which must pass."""
@@ -55,48 +74,43 @@ class Proved:
         with self.lock:
             lock = self.locks.setdefault(where, threading.Lock())
         with lock:
-            if not where.exists():
+            if where not in self.lost and not where.exists():
                 begun = where.with_name(where.name + ".begun")
-                shutil.rmtree(begun, ignore_errors=True)
                 begun.mkdir()
-                for name in [crate, *sources]:
-                    self.seed(name, begun)
+                # the crate's own comes last: of files that each has under one name it needs its own
+                for kept in (self.root / f"crates/{name}/out/incremental" for name in [*sources, crate]):
+                    # without it that check proves the crate from nothing, and is the longer for it
+                    if kept.exists():
+                        laid(kept, begun)
                 status, log = bench.check(crate, sources, begun)
                 if status or not re.search(r"^logic=proved ", log, re.M):
-                    raise ValueError(f"{crate} is not proved without an edit:\n{log[-2000:]}")
-                shutil.copytree(bench.kept(crate), where)
+                    self.lost[where] = f"{crate} is not proved without an edit:\n{log[-2000:]}"
+                else:
+                    shutil.copytree(bench.kept, where)
+                shutil.rmtree(begun)
+            if where in self.lost:
+                raise ValueError(self.lost[where])
         return where
 
 
 class Bench:
-    """A copy of the crates and of what is proved of them, where one edit at a time is planted."""
+    """A copy of the crates, where one edit at a time is planted."""
 
     def __init__(self, proved):
         self.proved, self.where = proved, Path(tempfile.mkdtemp(dir=proved.folder)).resolve()
-        shutil.copytree(proved.root / "crates", self.where / "crates", symlinks=True)
-        shutil.copy(proved.root / "crates.txt", self.where)
-        for part in ("rlib", "stamp"):
-            if (proved.root / "target" / part).exists():
-                shutil.copytree(proved.root / "target" / part, self.where / "target" / part, symlinks=True)
-
-    def kept(self, crate):
-        """Where a check keeps what it has proved."""
-        return self.where / "target/inc" / crate
+        # where a check keeps what it has proved
+        self.kept = self.where / "kept"
+        crates = proved.root / "crates"
+        shutil.copytree(crates, self.where / "crates", symlinks=True, ignore=lambda at, _: {"out"} if Path(at).parent == crates else ())
 
     def check(self, crate, sources, start):
-        """Checks a crate over a copy of an incremental folder: the exit status, and what is said."""
-        shutil.rmtree(self.kept(crate), ignore_errors=True)
-        shutil.copytree(start, self.kept(crate))
-        # a library that comes as source is no dependency that would be proved first; no other line changes, or what is proved would not count
-        line = f"{crate}: {' '.join(name for name in self.proved.listed[crate] if name not in sources)}" if sources else r"\g<0>"
-        crates = (self.proved.root / "crates.txt").read_text("utf-8")
-        (self.where / "crates.txt").write_text(re.sub(rf"^{crate}:.*", line, crates, flags=re.M), "utf-8")
-        words = [word for name in sources for word in ("--lib", f"{name}={self.where}/crates/{name}/src/lib.rt")]
-        done = subprocess.run(["rt", "dev", crate, *words], cwd=self.where, env=dict(os.environ, RT_JOBS="1"), stdin=subprocess.DEVNULL,
-                              stdout=subprocess.PIPE, stderr=subprocess.STDOUT, encoding="utf-8", errors="replace")
-        if again := re.search(r"^rt: (\w+) (?:proved \(\d|NOT PROVED)", done.stdout, re.M):
-            raise ValueError(f"{again[1]}, which {crate} depends on, was not proved before:\n{done.stdout[-2000:]}")
-        return done.returncode, done.stdout
+        """Checks a crate over a copy of an incremental folder: the exit status, and what is said, with paths from the root."""
+        shutil.rmtree(self.kept, ignore_errors=True)
+        shutil.copytree(start, self.kept)
+        words = [str(KIT / "bin/rattle"), "check", *self.proved.words(crate, sources, self.where), "--jobs", "1", "--incremental", str(self.kept)]
+        done = subprocess.run(words, cwd=self.where / "crates" / crate, stdin=subprocess.DEVNULL, stdout=subprocess.PIPE, stderr=subprocess.STDOUT,
+                              encoding="utf-8", errors="replace")
+        return done.returncode, from_the_root(done.stdout, crate, self.where)
 
     def plant(self, edit, judge):
         """Tries one edit: why it is not refused as it must be, or nothing; and what was said."""
@@ -145,14 +159,16 @@ def can_be_made(root, edit):
 
 def groups(root, edits):
     """Edits that can be planted together. What one function's body says reaches no other function's proof; so those that change nothing but the
-    bodies and proofs of different functions of a crate, and are refused there, are told apart by the proof in which a fact falls."""
-    found, own = [], {}
+    bodies and proofs of different functions of a crate, of which none calls another, and are refused there, are told apart by the proof in which a
+    fact falls."""
+    found, own, led = [], {}, {crate: reaching(root, crate) for crate in {edit.crate for edit in edits}}
     for edit in edits:
         functions = bodies(root, edit) if can_be_made(root, edit) else set()
         own[edit] = functions if functions >= set(edit.refused.split()) else set()
         for group in found:
-            apart = not own[edit] & set().union(*(own[other] for other in group))
-            if own[edit] and own[group[0]] and group[0].crate == edit.crate and apart and can_be_made(root, joined([*group, edit])):
+            others = set().union(*(own[other] for other in group))
+            apart = group[0].crate == edit.crate and not any(b in led[edit.crate][a] or a in led[edit.crate][b] for a in own[edit] for b in others)
+            if own[edit] and own[group[0]] and apart and can_be_made(root, joined([*group, edit])):
                 group.append(edit)
                 break
         else:
@@ -166,9 +182,9 @@ def by_the_prover(edit, status, log, places):
     if re.search(r"^logic=proved ", log, re.M) or status == 0:
         return f"NOT REFUSED: {edit.crate} is still proved"
     if status != 1 or not re.search(r"^logic=not-proved", log, re.M):
-        return f"BAD EDIT: it did not reach the prover (exit {status}):\n{log[-2000:]}"
+        return f"BAD EDIT: it did not reach the prover, or came to no verdict (exit {status}):\n{log[-2000:]}"
     for other in sorted(touched(edit) - {edit.crate}):
-        if found := re.search(rf"^\S*/crates/{other}/\S*: error: .*|^fn {other}::\S+: (?:no|not|could).*", log, re.M):
+        if found := re.search(rf"^crates/{other}/\S*: error: .*|^\w+ {other}::\S+: (?:no|not|could).*", log, re.M):
             return f"{other}, the edited crate, is itself not proved: {found[0][:300]}"
     if why := not_a_fact(log, places):
         return f"it is not refused for a fact: {why}"
@@ -177,7 +193,7 @@ def by_the_prover(edit, status, log, places):
 
 def by_the_compiler(edit, status, log, places):
     """Why what is said of an edit is not the one mixing of kinds that it names; empty where it is."""
-    said = re.findall(r"^\S*?/(crates/\S*?:\d+:)(?:\d+:)? (error.*)", log, re.M)
+    said = re.findall(r"^(crates/\S*?:\d+:)(?:\d+:)? (error.*)", log, re.M)
     if status == 1 and said == [(places[0], f"error[mismatched-types]: {edit.refused}")] and "logic=" not in log:
         return ""
     return f"the compiler does not refuse it in these words, and for nothing else (exit {status}):\n{log[-2000:]}"
@@ -217,14 +233,25 @@ def shown(edits):
     return len(edits) - failed, failed
 
 
+def made(root):
+    """Has each crate proved, over what earlier checks kept, with the libraries and folders that edits start from: how many are not."""
+    begun = time.monotonic()
+    done = subprocess.run(["rt", "all", "check", "--jobs", str(WORKERS)], cwd=root, stdin=subprocess.DEVNULL, stdout=subprocess.PIPE,
+                          stderr=subprocess.STDOUT, encoding="utf-8", errors="replace")
+    lost = re.findall(r"^\w+: (?:failed|not run).*", done.stdout, re.M)
+    print(done.stdout if done.returncode else f"spent proving for the edits: {time.monotonic() - begun:.0f} s", flush=True)
+    return max(len(lost), 1) if done.returncode else 0
+
+
 def main():
     known = {edit.name: edit for edit in every_edit(ROOT)}
     for name in sys.argv[1:]:
         if name not in known:
             sys.exit(f"there is no edit {name}")
-    passed, failed = shown([known[name] for name in sys.argv[1:]] or own_edits(ROOT) + kind_edits(ROOT))
-    print(f"{passed} passed, {failed} failed", flush=True)
-    sys.exit(failed != 0 or passed == 0)
+    lost = made(ROOT)
+    passed, failed = shown([known[name] for name in sys.argv[1:] or known])
+    print(f"{passed} passed, {failed + lost} failed", flush=True)
+    sys.exit(failed + lost != 0 or passed == 0)
 
 
 if __name__ == "__main__":

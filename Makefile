@@ -8,7 +8,7 @@ include hosts/x86-64.mk
 LIBRARY := target/lib/libtulpavice
 HOSTS := hosts
 HOST := target/host
-SOURCES := $(shell find crates -name '*.rt' -o -name '*.antt')
+SOURCES := $(shell find crates -name out -prune -o '(' -name '*.rt' -o -name '*.antt' ')' -print)
 CFLAGS ?= -O2 -Wall -Wextra -Werror
 COMPILE = $(CC) -std=c11 -Iinclude $(CFLAGS) -c -o $@
 # whatever is compiled here waits for it: the header's structs are laid out as the library has them
@@ -62,13 +62,11 @@ bench: target/bench/bench
 $(LIBRARY).a: crates.txt $(SOURCES)
 	@mkdir -p $(@D)
 	@command -v rt > /dev/null || { echo 'rt, the command of the Rattle kit, is not on the path' >&2; exit 1; }
-	@echo 'proving the library: from nothing it takes two to three minutes' >&2
-	@rt check tulpavice 2>&1 | awk -v all=target/prove.log '{ print > all } /^rt: ok/ { ok = 1 } \
-	    /^rt: .*( NOT PROVED| proved \([0-9])/ { sub(/^rt: /, "  "); print | "cat >&2"; fflush() } END { exit !ok }' \
-	    || { cat target/prove.log; exit 1; }
-	@echo 'compiling it' >&2
-	@rt staticlib tulpavice > target/staticlib.log 2>&1 || { cat target/staticlib.log; exit 1; }
-	@cp target/staticlib/libtulpavice.a $@
+	@echo 'proving the library, and compiling it: from nothing it takes several minutes' >&2
+	@{ cd crates/tulpavice && rt lib 2>&1; echo "rt lib: $$?"; } | awk -v all=target/prove.log '{ print > all } /^rt lib: 0$$/ { ok = 1 } \
+	    /^crate [a-z]+: / { crate = $$2; sub(/:/, "", crate) } /^logic=/ { print "  " crate (/^logic=proved / ? " proved" : " NOT PROVED") | "cat >&2"; fflush() } \
+	    END { exit !ok }' || { cat target/prove.log; exit 1; }
+	@cp crates/tulpavice/out/libtulpavice.a $@
 
 $(LIBRARY).so: $(LIBRARY).a include/tulpavice.h hosts/x86-64.mk
 	@$(SHARED)

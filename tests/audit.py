@@ -4,14 +4,18 @@ import sys
 from pathlib import Path
 
 from edge import HEADER, c_text, exports_are_declared, structs_are_laid_out_alike
-from edits import edited, every_edit, fell_elsewhere, kit_edits, not_a_fact, own_edits
+from edits import edited, every_edit, kit_edits, own_edits
 from house import house_is_drawn
-from texts import EDGE, NAME, antt_files, brought, declared, functions, plain_rattle, texts
+from texts import EDGE, NAME, antt_files, brought, declared, functions, plain_rattle, texts, without_clauses
 
 ROOTS = "Prim mathlib native lib mir borrow denote".split()
-SOURCE = rf"(?:package\.)?(?:{'|'.join(ROOTS)})\."
+# The library, with the kit's proved crates that every crate stands on.
+SOURCE = rf"(?:package\.)?(?:{'|'.join(ROOTS)}|Rattle\.(?:core|std|std_alloc|std_collections|std_heap|std_io))\."
 # What a contract has with no import, and what its reader would take for the library's though nothing here brings it.
-FAMILIAR = set("now _×_ ⊥ ¬_ absurd Unit tt T Dec refl _≢_ _>_ _≥_ _∸_ negsuc eqZ set".split())
+FAMILIAR = set("""result now ◌×◌ ⊤ ⊥ ¬◌ absurd Unit tt T Dec refl ◌≢◌ ◌>◌ ◌≥◌ ◌∸◌ ◌⊎◌ ◌↔◌ negsuc eqz set not All Any Contains IsTrue IsFalse
+IsSome IsOk IsErr IfSome IfOk IfErr OnSome OnOk OnErr""".split())
+# A trait is brought for its methods, and named by none of their calls.
+METHODS = {"Write": r"\.(?:write|flush)\w*\("}
 PROMISES = "docs/PROMISES.md"
 ENTRIES = ["entry", "definition", "promise", "must-fail edits"]
 INNER = ["function", "requires", "promise", "must-fail edits"]
@@ -110,11 +114,11 @@ def plain_imports(root):
     for file in sorted(root.glob("crates/*/src/**/*.rt")):
         text = plain_rattle(file.read_text("utf-8"))
         # a contract speaks of definitions, which may be called as a function is
-        code = re.sub(r"(?m)⌜.*?⌝|^\s*(?:pub\s+|ghost\s+)?use\s[^;]*;", "", text, flags=re.S)
-        for path in re.findall(r"(?m)^\s*use\s+([\w:]+);", text):
-            name = path.split("::")[-1]
-            if not re.search(rf"\b{name}\b", code):
-                yield file.relative_to(root), name
+        code = without_clauses(re.sub(r"(?m)^\s*(?:pub\s+|ghost\s+)?use\s[^;]*;", "", text))
+        for line in re.findall(r"(?m)^\s*use\s+([^;]+);", text):
+            for name in re.findall(r"(\w+)\s*(?=[,}]|$)", re.sub(r"\bself\b", "", line)) + re.findall(r"(\w+)::\{\s*self\b", line):
+                if not re.search(METHODS.get(name, rf"\b{name}\b"), code):
+                    yield file.relative_to(root), name
 
 
 def imports_are_used(root):
@@ -125,7 +129,7 @@ def imports_are_used(root):
         tokens = set(re.findall(NAME, rest))
         for _, name in sum(brought(text, keyword), []):
             # an operator is written by its parts, or whole
-            if name not in tokens and not all(part in tokens for part in name.split("_") if part):
+            if name not in tokens and not ("◌" in name and all(part in tokens for part in name.split("◌") if part)):
                 found.append(f"{place}: `{name}` is brought and not used")
     return found
 
@@ -193,7 +197,7 @@ def things(root):
 def named_things_are_there(root):
     """Each law, function, type and file that the README or a page of docs/ names is there."""
     known, found = things(root) | LANGUAGE, []
-    files = {str(file.relative_to(root)) for file in root.glob("**/*") if ".git" not in file.parts and "target" not in file.parts[len(root.parts):]}
+    files = {str(file.relative_to(root)) for file in root.glob("**/*") if not {".git", "target", "out"} & {*file.parts[len(root.parts):]}}
     ends = {path[at.end():] for path in files for at in re.finditer(r"^|/", path)}
     for page in sorted(["README.md", *(f"docs/{file.name}" for file in root.glob("docs/*.md"))]):
         text = (root / page).read_text("utf-8") if (root / page).exists() else ""
@@ -212,27 +216,6 @@ def named_things_are_there(root):
 RULES = [promises_are_made, entries_ask_nothing, entries_exist, public_functions_are_listed, promises_are_guarded, exports_are_declared,
          structs_are_laid_out_alike, symbols_mean_the_librarys, imports_are_used, no_hole_is_left, edits_can_be_planted, edits_differ, edits_are_listed, named_things_are_there,
          house_is_drawn]
-
-
-def kit_edits_are_refused_for_a_fact(root):
-    """Every edit that the kit plants was tried, and a fact fell in each proof that it names."""
-    found = []
-    for edit in kit_edits(root):
-        where = root / "target/must-fail" / edit.name
-        try:
-            places = edited(root, edit)[1]
-            log = (where / ".log").read_text("utf-8", "replace").replace(f"{where.resolve()}/", f"/crates/{edit.crate}/")
-            why = not_a_fact(log, places) or fell_elsewhere(edit, log)
-        except FileNotFoundError:
-            why = "it has no log"
-        except ValueError as error:
-            why = str(error)
-        found += [f"{edit.file.relative_to(root)}: {why}"] if why else []
-    return found
-
-
-# What can be seen only where `rt ci` has just run.
-AFTER_PROOFS = [kit_edits_are_refused_for_a_fact]
 
 
 def main():

@@ -1,12 +1,12 @@
-"""The edit loop: `python3 tests/check.py [REVISION]` audits the tree, proves what changed and what stands on it, and tries the edits of what differs
-from a revision, from the last commit where none is named. The verdict is the gate's."""
+"""The edit loop: `python3 tests/check.py [REVISION]` audits the tree, proves what changed and what stands on it, runs the programs, and tries the edits
+of what differs from a revision, from the last commit where none is named. The verdict is the gate's."""
 import re
 import subprocess
 import sys
 
 import audit
 import planted
-from edits import every_edit
+from edits import OWN_PROOF, every_edit
 
 ROOT = planted.ROOT
 
@@ -20,18 +20,21 @@ def differing(base, root=ROOT):
 
 def concerned(edit, changed, root=ROOT):
     """Whether some changed files have to do with an edit: its own, one that it edits, a proof that must refuse it, or code of its crate."""
-    proofs = {f"crates/{edit.crate}/proofs/{name.replace('::', '/')}{end}" for name in edit.refused.split() for end in (".antt", "/Proof.antt")}
+    ends = ".antt", *(f"/{name}.antt" for name in OWN_PROOF)
+    proofs = {f"crates/{edit.crate}/proofs/{name.replace('::', '/')}{end}" for name in edit.refused.split() for end in ends}
     own = {str(edit.file.relative_to(root)), *(change.path for change in edit.changes)} | proofs
     return any(name in own or name.startswith(f"crates/{edit.crate}/src/") for name in changed)
 
 
 def proved():
-    """Proves what is not proved yet and runs the programs, with a line for each crate that was; all that is said where something fails."""
-    with subprocess.Popen(["rt", "check"], cwd=ROOT, stdin=subprocess.DEVNULL, stdout=subprocess.PIPE, stderr=subprocess.STDOUT, text=True) as child:
+    """Proves what is not proved yet over what earlier checks kept, looks at the layout and runs the programs: a line for each crate, and all that is said
+    where something fails."""
+    words = ["rt", "all", "test", "--jobs", str(planted.WORKERS)]
+    with subprocess.Popen(words, cwd=ROOT, stdin=subprocess.DEVNULL, stdout=subprocess.PIPE, stderr=subprocess.STDOUT, text=True) as child:
         said = []
         for line in child.stdout:
             said.append(line)
-            if re.match(r"rt: \w+ (?:proved \(\d|proved, and|NOT PROVED|ran)", line):
+            if re.match(r"== (?!summary)|fn \S+: (?!proved)|logic=|\w+: |\d+ of \d+ crates ok", line):
                 print(line, end="", flush=True)
     if child.returncode:
         print("".join(said), end="")
@@ -42,8 +45,7 @@ def main():
     changed = differing(*(sys.argv[1:] or ["HEAD"]))
     complaints = [f"{rule.__name__}: {text}" for rule in audit.RULES for text in rule(ROOT)]
     print("\n".join(complaints or ["the audit has no complaint"]), flush=True)
-    good = subprocess.run(["rt", "fmt", "--check"], cwd=ROOT).returncode == 0 and not complaints
-    good = proved() and good
+    good = proved() and not complaints
     edits = [edit for edit in every_edit(ROOT) if concerned(edit, changed)]
     print(f"{len(edits)} edits have to do with what changed", flush=True)
     good = (not edits or planted.shown(edits)[1] == 0) and good

@@ -1,4 +1,4 @@
-"""The gate: layout, `rt ci`, every edit that must be refused, and the tests of this folder. The last line is `N passed, M failed`.
+"""The gate: `rt ci`, every edit that must be refused, and the tests of this folder. The last line is `N passed, M failed`.
 
 `gate.py tests FOLDER` runs the tests of one folder. What needs nothing proved (tests/own) runs beside the proofs, and the tests of what is proved
 beside the edits, so that no core is idle for long; what runs beside is printed when it has ended.
@@ -27,22 +27,17 @@ MAY_BE_SKIPPED = {
     "test_table.Table.test_corrections_are_those_of_document_02",
     "test_table.Table.test_data_is_document_004_corrected",
 }
-# Where time goes, and the lines of a step that name its seconds.
-SPENT = {
-    "proving": r"^rt: \w+ (?:proved|NOT PROVED) \((?:exit \d+, )?(\d+) s\)$",
-    "edits, from nothing": r"^rt: must-fail .*?(\d+) s\)$",
-    "edits of code": r"^spent edits of code: (\d+) s$",
-    "edits of definitions": r"^spent edits of definitions: (\d+) s$",
-    "comparison": r"^spent comparison: (\d+) s$",
-    "the rest": r"^spent the rest: (\d+) s$",
-}
+# Where time goes; a step says of a part of its work `spent KIND: N s`.
+KINDS = "proving for the edits", "edits of code", "edits of definitions", "comparison", "the rest"
+# `rt ci` passes though it cannot apply or read an edit, and says how many those are: nothing was tried of what they are there for.
+BAD_EDITS = re.compile(r"^rt: (?:note: bad must-fail edits, as told above: (?=\d+\.)|ok;.*, (?=\d+ bad;))(\d+)", re.M)
 
 
 class Step:
     """A command that is begun, and counted when it has ended. `beside` others it is printed at the end."""
 
     def __init__(self, *words, beside=False):
-        self.words, self.lines = words, []
+        self.words, self.lines, self.began, self.seconds = words, [], time.monotonic(), 0
         self.kept = tempfile.TemporaryFile("w+", encoding="utf-8", errors="replace") if beside else None
         env = dict(os.environ, PYTHONUTF8="1", PYTHONDONTWRITEBYTECODE="1")
         try:
@@ -61,24 +56,25 @@ class Step:
             sys.stdout.write(line)
             sys.stdout.flush()
             self.lines.append(line)
-        return self.child.wait() if self.child else 127
-
-    def one(self):
-        """The command is one test."""
-        return (0, 1) if self.ended() else (1, 0)
+        status = self.child.wait() if self.child else 127
+        self.seconds = time.monotonic() - self.began
+        return status
 
     def many(self):
-        """The command ends in a tally. A bad exit or no tally is a failure, whatever was counted."""
+        """The command ends in a tally. A bad exit or no tally is a failure, whatever was counted; so is each edit that `rt ci` calls bad."""
         status = self.ended()
         tally = TALLY.fullmatch(self.lines[-1].strip()) if self.lines else None
         passed, failed = map(int, tally.groups()) if tally else (0, 1)
-        return passed, failed if status == 0 else max(failed, 1)
+        bad = max(map(int, BAD_EDITS.findall("".join(self.lines))), default=0)
+        if bad:
+            print(f"gate: {bad} edits are bad, and count as failures")
+        return passed, failed + bad if status == 0 else max(failed + bad, 1)
 
 
 def spent(lines):
     """The seconds that some lines name, by what they went to."""
     said = "".join(lines)
-    return {kind: sum(map(int, re.findall(pattern, said, re.M))) for kind, pattern in SPENT.items()}
+    return {kind: sum(map(int, re.findall(rf"^spent {kind}: (\d+) s$", said, re.M))) for kind in KINDS}
 
 
 class Result(unittest.TextTestResult):
@@ -129,10 +125,10 @@ def tests(folder):
 
 
 def gate():
-    """Every step, each run whatever became of those before it; their sum goes to target/tally."""
-    began, python = time.monotonic(), (sys.executable, "-u")
-    layout = Step("rt", "fmt", "--check")
-    steps, counts = [layout], [layout.one()]
+    """Every step, each run whatever became of those before it; their sum goes to target/tally, which says until then that nothing passed."""
+    began, python, steps, counts = time.monotonic(), (sys.executable, "-u"), [], []
+    (ROOT / "target").mkdir(exist_ok=True)
+    (ROOT / "target/tally").write_text("0 passed, 1 failed\n")
     for words, others in (
         # what is beside the proofs takes the core that they leave idle
         (("rt", "ci"), ("nice", *python, __file__, "tests", "tests/own")),
@@ -143,12 +139,11 @@ def gate():
         counts += [step.many() for step in pair]
         steps += pair
     passed, failed = map(sum, zip(*counts))
-    (ROOT / "target").mkdir(exist_ok=True)
     (ROOT / "target/tally").write_text(f"{passed} passed, {failed} failed\n")
     print("\ngate: where the time went, in seconds, two or three side by side")
-    for kind, seconds in spent(line for step in steps for line in step.lines).items():
-        print(f"  {kind:20} {seconds:5}")
-    print(f"  {'on the clock':20} {time.monotonic() - began:5.0f}\n")
+    for kind, seconds in {"rt ci": steps[0].seconds, **spent(line for step in steps for line in step.lines)}.items():
+        print(f"  {kind:22} {seconds:5.0f}")
+    print(f"  {'on the clock':22} {time.monotonic() - began:5.0f}\n")
     return passed, failed
 
 

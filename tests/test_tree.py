@@ -18,5 +18,5 @@ def passes(rule):
     return test
 
 
-for each in audit.RULES + audit.AFTER_PROOFS:
+for each in audit.RULES:
     setattr(Tree, f"test_{each.__name__}", passes(each))

@@ -44,6 +44,16 @@ def clauses(text, at):
     return found, len(text)
 
 
+def without_clauses(text):
+    """A plain text of Rattle without what its contracts say."""
+    out, at = [], 0
+    while clause := re.compile(r"\b(?:requires|ensures|ghost)\b\*?\s*(?:\w+\s*)?\{").search(text, at):
+        end = closing(text, clause.end() - 1)
+        out += [text[at:clause.start()], blank(text[clause.start():end])]
+        at = end
+    return "".join(out) + text[at:]
+
+
 ITEM = re.compile(r"""[{}]|\bimpl\b\s*(?:<[^>]*>\s*)?(?P<type>\w+)[^{};]*|"""
                   r"""(?P<public>\bpub\s+)?(?:\bconst\s+)?(?P<c>\bextern\s*"C"\s*)?\bfn\s+(?P<name>\w+)""")
 
@@ -96,7 +106,8 @@ def plain_antt(text):
 
 def antt_files(root):
     """The place and the plain text of each file of definitions or proofs."""
-    for file in sorted(root.glob("crates/*/*/**/*.antt")):
+    # what checks leave beside them, in crates/*/out, is no text of ours
+    for file in sorted([*root.glob("crates/*/specs/**/*.antt"), *root.glob("crates/*/proofs/**/*.antt")]):
         yield file.relative_to(root), plain_antt(file.read_text("utf-8"))
 
 
@@ -126,7 +137,7 @@ def declared(text):
                 yield name[1]
     # a parameter that is spelled as an operator is read as one
     for names in re.findall(rf"[({{]\s*((?:{NAME}\s+)+):\s", text):
-        yield from (name for name in names.split() if "_" in name)
+        yield from (name for name in names.split() if "◌" in name)
 
 
 def texts(root):

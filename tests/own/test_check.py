@@ -13,8 +13,8 @@ EDIT = Edit("laws/toy", "laws", ROOT / "must-fail/laws/toy.edit", "A toy.", "Des
 
 class Loop(unittest.TestCase):
     def test_what_has_to_do_with_an_edit(self):
-        for name in ("must-fail/laws/toy.edit", "crates/rules/specs/Row.antt", "crates/laws/proofs/Desk.antt", "crates/laws/proofs/row/admits/Proof.antt",
-                     "crates/laws/src/lib.rt"):
+        for name in ("must-fail/laws/toy.edit", "crates/rules/specs/Row.antt", "crates/laws/proofs/Desk.antt", "crates/laws/proofs/row/admits/Answers.antt",
+                     "crates/laws/proofs/row/admits/Invariants.antt", "crates/laws/src/lib.rt"):
             self.assertTrue(check.concerned(EDIT, {name, "README.md"}, ROOT), name)
 
     def test_what_has_not(self):

@@ -73,13 +73,23 @@ class Steps(unittest.TestCase):
         with contextlib.redirect_stdout(io.StringIO()):
             self.assertEqual(gate.Step("/no/such/command").many(), (0, 1))
 
+    def test_a_bad_edit_fails(self):
+        """`rt ci` passes with one, and the gate does not."""
+        share = "every proof and must-fail edit was done in this run"
+        for said in (f"rt: ok; handles allowed: none; must-fail edits: 8 refused, 1 bad; {share}",
+                     f"rt: ok; handles allowed: none; must-fail edits: 8 refused, 2 of them only by a limit, 1 bad; {share}",
+                     "rt: note: bad must-fail edits, as told above: 1. They fail nothing here, and say nothing of a contract: mend or remove them"):
+            self.assertEqual(self.said(f"print({said!r}); print('3 passed, 0 failed')"), (3, 1), said)
+
+    def test_no_bad_edit(self):
+        for said in ("rt: ok; handles allowed: none; must-fail edits: 9 refused; done in this run: 1 of the 40 proofs", "rt: ok; handles allowed: none; 1 of 2",
+                     "rt: ok; handles allowed: none; must-fail edits: 9 refused, 2 of them only by a limit; done in this run: 1 of the 40 proofs"):
+            self.assertEqual(self.said(f"print({said!r}); print('3 passed, 0 failed')"), (3, 0), said)
+
     def test_where_the_time_went(self):
-        lines = ["rt: laws proved (4 s)\n", "rt: desk proved (20 s)\n", "rt: desk ran as nobody, and wrote what its file 'stdout' has (0 s)\n",
-                 "rt: must-fail quality/divide_by_n: refused, as it must be (first at proofs/row/admits/Proof.antt:77:57; 12 s)\n",
-                 "rt: printed NOT PROVED (exit 1, 7 s)\n", "rt: rules proved (unchanged since it was last proved)\n", "spent edits of code: 30 s\n",
+        lines = ["rt: laws proved\n", "spent proving for the edits: 40 s\n", "edit laws/d5: refused, as it must be (3.5 s)\n", "spent edits of code: 30 s\n",
                  "spent comparison: 0 s\n", "spent the rest: 5 s\n", "spent comparison: 9 s\n", "spent the rest: 6 s\n"]
-        self.assertEqual(gate.spent(lines), {"proving": 31, "edits, from nothing": 12, "edits of code": 30, "edits of definitions": 0,
-                                             "comparison": 9, "the rest": 11})
+        self.assertEqual(gate.spent(lines), {"proving for the edits": 40, "edits of code": 30, "edits of definitions": 0, "comparison": 9, "the rest": 11})
 
 
 if __name__ == "__main__":

@@ -27,7 +27,7 @@ class Second(unittest.TestCase):
         # each row was found by as many tries as the law says
         found = re.findall(r"rows found by (\d+) tries, \d+: (.*)", said)
         tries = {int(row): int(tried) for tried, rows in found for row in rows.split()}
-        (law,) = re.findall(r"^tries-by-row =\n(.*?)\[\]$", (ROOT / "crates/laws/specs/Tried.antt").read_text("utf-8"), re.M | re.S)
+        (law,) = re.findall(r"^tries_by_row =\n(.*?)\[\]$", (ROOT / "crates/laws/specs/Tried.antt").read_text("utf-8"), re.M | re.S)
         self.assertEqual([tries[row] for row in range(54)], [int(tried) for tried in re.findall(r"\d+", law)])
 
     def test_a_wrong_constant_is_told(self):

@@ -7,7 +7,8 @@ import unittest
 ROOT = pathlib.Path(__file__).resolve().parent.parent
 DATA = ROOT / "data/table-106-1.tsv"
 CORRECTIONS = ROOT / "data/table-106-1-corrections.tsv"
-PRINTED = ROOT / "target/log/printed.stdout"
+# `rt ci` holds what the program prints to this file, as two compilers build it
+PRINTED = ROOT / "crates/printed/stdout"
 
 
 def cells_of(file):

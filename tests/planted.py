@@ -15,7 +15,7 @@ import tempfile
 import threading
 import time
 from collections import namedtuple
-from concurrent.futures import ThreadPoolExecutor
+from concurrent.futures import ThreadPoolExecutor, as_completed
 from pathlib import Path
 
 from edits import bodies, edited, every_edit, fell_elsewhere, from_the_root, kind_edits, not_a_fact, reaching, refused_in, touched, without
@@ -25,7 +25,7 @@ ROOT = Path(__file__).resolve().parent.parent
 # Where the kit is, by its command.
 KIT = Path(shutil.which("rt") or "rt").resolve().parent.parent
 # A check takes one processor.
-WORKERS = min(4, os.cpu_count() or 1)
+WORKERS = min(4, len(os.sched_getaffinity(0)))
 
 Trial = namedtuple("Trial", "edit why log seconds")
 
@@ -132,7 +132,8 @@ class Bench:
         return judge(edit, status, log, places), log
 
     def plant_all(self, edits, judge):
-        """Tries edits of different functions of a crate together; each alone, where together not every one is refused as it must be."""
+        """Tries edits of different functions of a crate together; each half of them, and in the end each alone, where together not every one is
+        refused as it must be."""
         if len(edits) > 1:
             names = [{(edit.crate, name) for name in edit.refused.split()} for edit in edits]
             every = set().union(*names)
@@ -142,6 +143,8 @@ class Bench:
             facts = not any(not_a_fact(log, edited(self.proved.root, edit)[1]) for edit, log in zip(edits, logs))
             if not why and refused_in(log) == every and facts:
                 return [("", log) for log in logs]
+            half = len(edits) // 2
+            return self.plant_all(edits[:half], judge) + self.plant_all(edits[half:], judge)
         return [self.plant(edit, judge) for edit in edits]
 
 
@@ -213,8 +216,8 @@ def tried(root, edits, workers=WORKERS):
             seconds = (time.monotonic() - begun) / len(group)
             return [Trial(edit, *each, seconds) for edit, each in zip(group, said)]
 
-        for group in pool.map(trials, groups(root, edits)):
-            yield from group
+        for group in as_completed([pool.submit(trials, each) for each in groups(root, edits)]):
+            yield from group.result()
 
 
 def shown(edits):

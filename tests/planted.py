@@ -139,7 +139,7 @@ class Bench:
             every = set().union(*names)
             why, log = self.plant(joined(edits), judge)
             logs = [without(log, every - own) for own in names]
-            # no change adds a line, so that the places of each edit are those that it has alone
+            # of an edit's places those in proofs count, and no two edits change one proof
             facts = not any(not_a_fact(log, edited(self.proved.root, edit)[1]) for edit, log in zip(edits, logs))
             if not why and refused_in(log) == every and facts:
                 return [("", log) for log in logs]

@@ -34,7 +34,7 @@ def proved():
         said = []
         for line in child.stdout:
             said.append(line)
-            if re.match(r"== (?!summary)|fn \S+: (?!proved)|logic=|\w+: |\d+ of \d+ crates ok", line):
+            if re.match(r"== |fn \S+: (?:no|not|could)\b|\w+: (?:ok$|failed|not run)|\d+ of \d+ crates ok", line):
                 print(line, end="", flush=True)
     if child.returncode:
         print("".join(said), end="")

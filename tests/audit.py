@@ -178,7 +178,9 @@ def edits_are_listed(root):
 
 
 # Words of the language and of commands, which are no thing of this tree.
-LANGUAGE = set("rt requires ensures i64 match rw omega c V DESTDIR tulpavice-notebook".split())
+LANGUAGE = set("rt requires ensures i64 match if rw elim omega c V DESTDIR tulpavice-notebook".split())
+# Files that stand for many, and one of the kit's.
+ELSEWHERE = r"^target/|CRATE|LABEL|^proofs/F/|^port\.py$"
 
 
 def things(root):
@@ -204,7 +206,7 @@ def named_things_are_there(root):
         # what is fenced, and what is quoted with a blank in it, is a command or an example
         text = re.sub(r"^ *```.*?^ *```|`[^`\n]*`", lambda m: "" if re.search(r"\s", m[0]) else m[0], text, flags=re.M | re.S)
         for name in sorted(set(re.findall(r"(?<![\w/.-])[\w+./-]*\w\.(?:antt|rt|py|c|h|mk|md|tsv|edit)\b", text))):
-            if name not in ends and not re.search(r"^target/|CRATE|LABEL", name):
+            if name not in ends and not re.search(ELSEWHERE, name):
                 found.append(f"{page}: there is no file {name}")
         for quoted in sorted(set(re.findall(r"`([A-Za-z][\w-]*(?:::\w+)*|\w+/[\w/-]*)`", text))):
             names = [quoted.strip("/")] if "/" in quoted else quoted.split("::")

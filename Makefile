@@ -68,9 +68,10 @@ $(LIBRARY).a: crates.txt $(SOURCES)
 	    END { exit !ok }' || { cat target/prove.log; exit 1; }
 	@cp crates/tulpavice/out/libtulpavice.a $@
 
+# Its other name here is no symbolic link: rt refuses one anywhere in the checkout.
 $(LIBRARY).so: $(LIBRARY).a include/tulpavice.h hosts/x86-64.mk
 	@$(SHARED)
-	@ln -sf $(@F) $(@D)/$(SONAME)
+	@ln -f $@ $(@D)/$(SONAME)
 
 $(LAYOUT): hosts/layout.c include/tulpavice.h
 	@mkdir -p $(@D)

@@ -12,7 +12,7 @@ ROOTS = "Prim mathlib native lib mir borrow denote".split()
 # The library, with the kit's proved crates that every crate stands on.
 SOURCE = rf"(?:package\.)?(?:{'|'.join(ROOTS)}|Rattle\.(?:core|std|std_alloc|std_collections|std_heap|std_io))\."
 # What a contract has with no import, and what its reader would take for the library's though nothing here brings it.
-FAMILIAR = set("""result now ◌×◌ ⊤ ⊥ ¬◌ absurd Unit tt T Dec refl ◌≢◌ ◌>◌ ◌≥◌ ◌∸◌ ◌⊎◌ ◌↔◌ negsuc eqz set not All Any Contains IsTrue IsFalse
+FAMILIAR = set("""result now ◌×◌ ⊤ ⊥ ¬◌ absurd Unit tt T Dec refl ◌≢◌ ◌>◌ ◌≥◌ ◌∸◌ ◌⊎◌ ◌↔◌ negsuc set not All Any Contains IsTrue IsFalse
 IsSome IsOk IsErr IfSome IfOk IfErr OnSome OnOk OnErr""".split())
 # A trait is brought for its methods, and named by none of their calls.
 METHODS = {"Write": r"\.(?:write|flush)\w*\("}
@@ -179,8 +179,10 @@ def edits_are_listed(root):
 
 # Words of the language and of commands, which are no thing of this tree.
 LANGUAGE = set("rt requires ensures i64 match if rw elim omega c V DESTDIR tulpavice-notebook".split())
-# Files that stand for many, and one of the kit's.
-ELSEWHERE = r"^target/|CRATE|LABEL|^proofs/F/|^port\.py$"
+# A page on what there was before, and so on what is gone.
+BEFORE = {"docs/PORT.md"}
+# Files that stand for many.
+ELSEWHERE = r"^target/|CRATE|LABEL|^proofs/F/"
 
 
 def things(root):
@@ -201,7 +203,7 @@ def named_things_are_there(root):
     known, found = things(root) | LANGUAGE, []
     files = {str(file.relative_to(root)) for file in root.glob("**/*") if not {".git", "target", "out"} & {*file.parts[len(root.parts):]}}
     ends = {path[at.end():] for path in files for at in re.finditer(r"^|/", path)}
-    for page in sorted(["README.md", *(f"docs/{file.name}" for file in root.glob("docs/*.md"))]):
+    for page in sorted({"README.md", *(f"docs/{file.name}" for file in root.glob("docs/*.md"))} - BEFORE):
         text = (root / page).read_text("utf-8") if (root / page).exists() else ""
         # what is fenced, and what is quoted with a blank in it, is a command or an example
         text = re.sub(r"^ *```.*?^ *```|`[^`\n]*`", lambda m: "" if re.search(r"\s", m[0]) else m[0], text, flags=re.M | re.S)

@@ -93,8 +93,7 @@ def host_structs(root):
         for marks, name, fields in re.findall(r"((?:#\[[^\n]*\]\s*)*)pub\s+struct\s+(Host\w+)\s*\{([^}]*)\}", text):
             split = [part.removeprefix("pub ").split(": ") for part in listed(fields)]
             # what is derived adds functions, and moves no field
-            kept = [mark for mark in marks.splitlines() if mark.strip() and not mark.strip().startswith("#[derive(")]
-            once = c_type(name) not in found and kept == ["#[repr(C)]"]
+            once = c_type(name) not in found and re.sub(r"#\[derive\([\w\s,:]*\)\]", "", marks).split() == ["#[repr(C)]"]
             found[c_type(name)] = [(PLACES.get(field, field), c_type(type_)) for field, type_ in split] if once else []
     return found
 

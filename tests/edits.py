@@ -101,7 +101,7 @@ def edited(root, edit):
     return texts, places
 
 
-# What is written of a function's own proof.
+# What is written of a function's own proof, in the function's folder.
 OWN_PROOF = ("Proof", "Invariants", "Answers")
 
 
@@ -119,7 +119,7 @@ def bodies(root, edit):
             before, after = ([*functions_in(each, path)] for each in (text, texts[path]))
             names = {path_of(f) for f in before if f.body[0] < at and at + len(old) < f.body[1]}
         else:
-            before, after, names = [], [], {"::".join(rest[:-1])} if part == "proofs" and rest[-1] in OWN_PROOF else set()
+            before, after, names = [], [], {"::".join(rest[:-1])} if part == "proofs" and rest[:-1] and rest[-1] in OWN_PROOF else set()
         if crate != edit.crate or not names or [*map(path_of, before)] != [*map(path_of, after)]:
             return set()
         found |= names
@@ -169,7 +169,7 @@ def from_the_root(log, crate, where):
 def proof_of(place):
     """The crate and the name of the proof that a file is."""
     crate, _, *parts = Path(place[place.rfind("crates/"):]).with_suffix("").parts[1:] or ("", "")
-    return crate, "::".join(parts[:-1] if parts[-1:] and parts[-1] in OWN_PROOF else parts)
+    return crate, "::".join(parts[:-1] if parts[1:] and parts[-1] in OWN_PROOF else parts)
 
 
 def blocks(log):

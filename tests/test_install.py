@@ -1,5 +1,6 @@
 """What `make install` installs, and that a program can be built over it."""
 import os
+import platform
 import re
 import shutil
 import subprocess
@@ -79,7 +80,17 @@ class Install(unittest.TestCase):
         (self.folder / "voids.c").write_text(fenced("c", VOIDS))
         *words, _ = running("target/host/notebook")
         loaded = str(self.prefix / "lib")
-        built = self.ran([*make("print-CC").split(), "-o", "voids", "voids.c", *self.asked("--cflags", "--libs")])
+        if platform.machine() == "x86_64":
+            built = self.ran([*make("print-CC").split(), "-o", "voids", "voids.c", *self.asked("--cflags", "--libs")])
+        else:
+            built = self.ran([*make("print-CC").split(), "-c", "voids.c", *self.asked("--cflags")])
+            self.assertEqual((built.returncode, built.stderr), (0, ""))
+            # the kit's own linker takes no -L and -l, and the one below it does, as gcc's would
+            tools = make("print-TOOLS").strip()
+            built = self.ran([f"{tools}/bin/ld.lld", "-pie", "--dynamic-linker=/lib64/ld-linux-x86-64.so.2", "-o", "voids",
+                              *(f"{tools}/lib/{name}" for name in ("Scrt1.o", "crti.o", "crtbeginS.o")), "voids.o", *self.asked("--libs"),
+                              *(f"{tools}/lib/{name}" for name in ("libc.so.6", "libc_nonshared.a", "crtendS.o", "crtn.o"))])
+            words = [word.replace(f"{tools}/lib", f"{tools}/lib:{loaded}") if word == f"{tools}/lib" else word for word in words]
         self.assertEqual(built.returncode, 0, built.stderr)
         self.assertIn(f"[libtulpavice.so.{MAJOR}]", self.ran(["readelf", "--dynamic", "voids"]).stdout)
         shown = self.ran([*words, "./voids"], env=dict(os.environ, LD_LIBRARY_PATH=loaded))

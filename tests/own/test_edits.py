@@ -102,7 +102,8 @@ class Said(unittest.TestCase):
             self.assertEqual(refused_in(without(log, every - {proof})), {proof})
 
     def test_whose_proof_a_file_is(self):
-        for path, name in {"crates/toy/proofs/Laws.antt": "Laws", "crates/toy/proofs/row/admits/Answers.antt": "row::admits",
+        for path, name in {"crates/toy/proofs/Laws.antt": "Laws", "crates/toy/proofs/Answers.antt": "Answers",
+                           "crates/toy/proofs/row/admits/Answers.antt": "row::admits",
                            "crates/toy/proofs/row/admits/Invariants.antt": "row::admits", "crates/toy/proofs/f/Proof.antt": "f"}.items():
             self.assertEqual(proof_of(path), ("toy", name))
 

@@ -55,6 +55,7 @@ fn columns(edition: &[u8], count: usize) -> bool
 }
 
 // Whether an edition is accepted.
+#[tactic(auto, using(laws::proofs::Editions::not_accepted, laws::proofs::Editions::columns_decide))]
 pub fn accepted(edition: &[u8]) -> bool
     ensures { result ≡ accepted edition.now }
 {

@@ -52,6 +52,7 @@ pub fn column(store: &[u8], start: usize, n: usize) -> usize
 }
 
 // An edition more, written where the store ends, and the place at which it starts.
+#[tactic(auto, using(laws::proofs::Stored::stored_within), unfolding(rules::specs::Editions::left_by))]
 pub fn store(store: &mut [u8], edition: &[u8]) -> PlaceAnswer
     ensures result_value { place_said result ≡ storing_says store.old edition.now }
     ensures store_after { store.new ≡ after_storing store.old edition.now }

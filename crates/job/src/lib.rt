@@ -54,6 +54,7 @@ fn fill(sublots: usize, lots: usize, out: &mut [u32])
 
 // The lots of a job of so many sublots, from the start of a lent list, two numbers to each: the sublot with which it starts, counted from 0, and
 // how many it has. What lies past them stays.
+#[tactic(auto, using(laws::proofs::JobLots::no_more_lots, laws::proofs::JobAnswers::refused_cut_keeps, laws::proofs::JobAnswers::long_job_is_refused, laws::proofs::JobAnswers::short_list_is_refused, laws::proofs::JobAnswers::cut_is_answered))]
 pub fn cut(sublots: usize, out: &mut [u32]) -> ListAnswer
     ensures result_value { list_said result ≡ cut_says sublots out.old }
     ensures out_after { out.new ≡ after_cut sublots out.old }

@@ -63,6 +63,7 @@ pub fn lent(readings: &[i32], upper: Limit, lower: Limit) -> TotalsAnswer
 }
 
 // The same for a lot in memory, whose count may be above what it can hold.
+#[tactic(auto, using(laws::proofs::Ruled::ruled_met), unfolding(laws::specs::Totalled::totalled))]
 pub fn held(lot: HeldLot) -> TotalsAnswer
     ensures { totals_said result ≡ totalled counted_meets (lot_in lot) }
 {

@@ -88,6 +88,7 @@ fn limits(pair: Pair) -> Limits
 }
 
 // The limits of the three characteristics, by a mixture number, a VMA minimum and a voids target; or refusal 5 or 9.
+#[tactic(auto, unfolding(rules::specs::Entries::mixture_says, rules::specs::Meets::mixture_meets, rules::specs::Mixture::mixture_limits, rules::specs::Said::ruled))]
 pub fn lookup(mixture: i64, minimum: Thousandths, target: Thousandths) -> MixtureAnswer
     ensures { mixture_said result ≡ mixture_says mixture minimum.0 target.0 }
 {

@@ -64,7 +64,8 @@ $(LIBRARY).a: crates.txt $(SOURCES)
 	@command -v rt > /dev/null || { echo 'rt, the command of the Rattle kit, is not on the path' >&2; exit 1; }
 	@echo 'proving the library, and compiling it: from nothing it takes several minutes' >&2
 	@{ cd crates/tulpavice && rt lib 2>&1; echo "rt lib: $$?"; } | awk -v all=target/prove.log '{ print > all } /^rt lib: 0$$/ { ok = proved } \
-	    /^crate [a-z]+: / { crate = $$2; sub(/:/, "", crate) } /^logic=/ { proved = /^logic=proved /; print "  " crate (/^logic=proved / ? " proved" : " NOT PROVED") | "cat >&2"; fflush() } \
+	    /^crate [a-z]+: / { crate = $$2; sub(/:/, "", crate) } \
+	    /^logic=/ { proved = /^logic=proved /; print "  " crate (proved ? " proved" : " NOT PROVED") | "cat >&2"; fflush() } \
 	    END { exit !ok }' || { cat target/prove.log; exit 1; }
 	@cp crates/tulpavice/out/libtulpavice.a $@
 

@@ -106,7 +106,7 @@ def plain_antt(text):
 
 def antt_files(root):
     """The place and the plain text of each file of definitions or proofs."""
-    for folder in root.glob("crates/*/*/"):
+    for folder in sorted(root.glob("crates/*/*/")):
         # what checks leave beside them, in crates/*/out, is no text of ours
         for file in sorted(folder.glob("**/*.antt")) if folder.name != "out" else ():
             yield file.relative_to(root), plain_antt(file.read_text("utf-8"))

@@ -1,15 +1,9 @@
 -- A refusal is passed on; else the percentages are those of the totals of the readings, by the column where it stands in the store.
-use Rattle.std.proofs.Common.{◌≡◌, ℕ, List, sym, ap, ◌∙◌}
+use Rattle.std.proofs.Common.{sym, ap, ◌∙◌}
 use Rattle.rules.specs.declared.Percentages.{Percentages}
-use Rattle.rules.specs.declared.Totals.{Totals}
-use Rattle.rules.specs.declared.store.Named.{Named}
 use Rattle.rules.specs.Said.{Said, answers}
-use Rattle.rules.specs.Lot.{Lot, lot_of}
-use Rattle.rules.specs.Store.{table_in}
 use Rattle.rules.specs.Meets.{counted_meets, evaluation_meets}
 use Rattle.rules.specs.Entries.{evaluation_says}
-use Rattle.laws.specs.StoreWalk.{named_says}
-use Rattle.laws.specs.Totalled.{totalled, by_table, with_column_say}
 use Rattle.laws.proofs.Accepted.{lot_totalled, totalled_is_evaluated, untotalled_is_refused}
 use Rattle.laws.proofs.Columned.{placed_percentages, found_in_store, columned_is_totalled, column_is_found}
 use Rattle.laws.proofs.Lots.{lot_of_counted}
@@ -18,33 +12,27 @@ use Rattle.quality.proofs.evaluate.Goals as goal
 abbrev answer : Percentages → Said Percentages
 answer p = answers p
 
--- What is said of the lot where its column is asked for too.
-asked :
-    (s : List ℕ) (k : ℕ) (lot : Lot) {named : Named} {said told : Said Totals} → named ≡ named_says k s → said ≡ totalled counted_meets lot →
-    told ≡ with_column_say named s said → told ≡ totalled (by_table (table_in s k)) lot
-unfolding evaluation_meets
-asked s k lot e f g = columned_is_totalled s k e counted_meets lot f g
-
 pub with_column-requires : goal.with_column-requires
 with_column-requires c = found_in_store _ _ c.named.ensures
 
 pub percentages-requires : goal.percentages-requires
+unfolding evaluation_meets
 percentages-requires c =
-    let said = asked c.args.store.now c.args.edition (lot_of c.args.upper c.args.lower c.args.readings.now) c.named.ensures c.lent.ensures c.with_column.ensures.0 in
+    let said = columned_is_totalled _ _ c.named.ensures counted_meets _ c.lent.ensures c.with_column.ensures.0 in
     let h = lot_totalled _ _ (lot_of_counted c.args.upper c.args.lower c.args.readings.now) said c.in-Answers.is in
     let f = column_is_found _ _ c.named.ensures c.with_column.ensures.1 c.in-Answers.is in
     (h.bounded, h.accepted.upper_in_range, h.accepted.lower_in_range, f.within, f.shape)
 
 pub returns-in-Refused : goal.returns-in-Refused
-unfolding evaluation_says
+unfolding evaluation_says evaluation_meets
 returns-in-Refused c =
-    let said = asked c.args.store.now c.args.edition (lot_of c.args.upper c.args.lower c.args.readings.now) c.named.ensures c.lent.ensures c.with_column.ensures.0 in
+    let said = columned_is_totalled _ _ c.named.ensures counted_meets _ c.lent.ensures c.with_column.ensures.0 in
     sym (untotalled_is_refused _ _ _ said c.in-Refused.is)
 
 pub returns-in-Answers : goal.returns-in-Answers
-unfolding evaluation_says
+unfolding evaluation_says evaluation_meets
 returns-in-Answers c =
-    let said = asked c.args.store.now c.args.edition (lot_of c.args.upper c.args.lower c.args.readings.now) c.named.ensures c.lent.ensures c.with_column.ensures.0 in
+    let said = columned_is_totalled _ _ c.named.ensures counted_meets _ c.lent.ensures c.with_column.ensures.0 in
     let h = lot_totalled _ _ (lot_of_counted c.args.upper c.args.lower c.args.readings.now) said c.in-Answers.is in
     let f = column_is_found _ _ c.named.ensures c.with_column.ensures.1 c.in-Answers.is in
     ap answer (c.percentages.ensures ∙ placed_percentages _ _ _ f) ∙ totalled_is_evaluated _ h

@@ -180,7 +180,7 @@ def edits_are_listed(root):
 # Words of the language and of commands, which are no thing of this tree.
 LANGUAGE = set("rt requires ensures i64 match if rw elim omega c V DESTDIR tulpavice-notebook".split())
 # A page on what there was before, and so on what is gone.
-BEFORE = {"docs/PORT.md"}
+BEFORE = {"docs/PORT.md", "docs/DESIGN-PASS.md"}
 # Files that stand for many.
 ELSEWHERE = r"^target/|CRATE|LABEL|^proofs/F/"
 

@@ -1,29 +1,21 @@
-// How the examples are printed: a name and a number, or the number of a refusal.
-use readings::magnitude;
+// How the examples are printed: the values that an entry answers, or the number of the refusal.
 use rules::Refusal;
-use std::io;
-use std::io::Write;
+use std::fmt;
 
-pub(crate) fn words(rt: &impl Print, text: &[u8]) -> io::Result<()> {
-    io::writer(rt).write_all(text)
+// Values as the desk prints them.
+pub(crate) trait Show {
+    fn show<W: fmt::Write>(&self, f: &mut fmt::Formatter<W>) -> fmt::Result;
 }
 
-pub(crate) fn count(rt: &impl Print, n: u64) -> io::Result<()> {
-    print!(rt; "{n}")
-}
+// What an entry answers.
+#[derive(Clone, Copy)]
+pub(crate) struct Shown<T>(pub Result<T, Refusal>);
 
-pub(crate) fn number(rt: &impl Print, name: &[u8], z: i64) -> io::Result<()> {
-    words(rt, name)?;
-    if z < 0 {
-        words(rt, b"-")?;
+impl<T: Show> fmt::Display for Shown<T> {
+    fn fmt<W: fmt::Write>(&self, f: &mut fmt::Formatter<W>) -> fmt::Result {
+        match &self.0 {
+            Ok(values) => values.show(f),
+            Err(refusal) => write!(f, "refusal {}", refusal.number()),
+        }
     }
-    count(rt, magnitude(z))
-}
-
-pub(crate) fn thousandths(rt: &impl Print, name: &[u8], z: i32) -> io::Result<()> {
-    number(rt, name, z as i64)
-}
-
-pub(crate) fn refusal(rt: &impl Print, refused: Refusal) -> io::Result<()> {
-    number(rt, b"refusal ", refused.number() as i64)
 }

@@ -5,6 +5,7 @@ ghost use Rattle.rules.specs.Table.{column_in, well_formed};
 ghost use Rattle.rules.specs.Edition.{first_field, edition_head, column_size, columns, column_of, each, accepted};
 
 use rules::MOST;
+
 // 54 rows to a column, two bytes to a row.
 pub const ROWS: usize = 54;
 
@@ -14,11 +15,12 @@ pub const COLUMN: usize = 108;
 pub const HEAD: usize = 7;
 
 // The number that the two bytes from a place on spell. Inner: a caller keeps the place within the bytes.
+#[tactic(auto, using(laws::proofs::Spelled::two_read))]
 pub fn two(bytes: &[u8], at: usize) -> u16
     requires { at + 2 ≤ length bytes.now }
     ensures { result ≡ spelled 0 (part at 2 bytes.now) }
 {
-    256 * bytes[at] as u16 + bytes[at + 1] as u16
+    u16::from_be_bytes([bytes[at], bytes[at + 1]])
 }
 
 // A column, from a place on, starts at 5,000, never falls and ends at 10,000.
@@ -27,14 +29,12 @@ fn column(bytes: &[u8], at: usize) -> bool
     ensures { result ≡ well_formed (column_in (drop at bytes.now)) }
 {
     let mut before = 0;
-    let mut k = 0;
-    while k < ROWS {
+    for k in 0..ROWS {
         let entry = two(bytes, at + 2 * k);
         if entry < before {
             return false;
         }
         before = entry;
-        k += 1;
     }
     (two(bytes, at) == 5000) & (two(bytes, at + 106) == 10000)
 }
@@ -44,12 +44,10 @@ fn columns(edition: &[u8], count: usize) -> bool
     requires { (length edition.now ≡ edition_head + column_size * count) × (count ≡ columns edition.now) }
     ensures { result ≡ each (λ n. well_formed (column_of edition.now n)) count (first_field edition.now) }
 {
-    let mut i = 0;
-    while i < count {
+    for i in 0..count {
         if !column(edition, HEAD + COLUMN * i) {
             return false;
         }
-        i += 1;
     }
     true
 }

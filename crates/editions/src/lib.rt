@@ -9,30 +9,20 @@ ghost use Rattle.std.specs.Prelude.{◌≡◌, true, ◌++◌, ◌+◌, ◌≤�
 ghost use Rattle.rules.specs.Table.{has_column};
 ghost use Rattle.rules.specs.Edition.{first_field, column_place, table_of};
 ghost use Rattle.rules.specs.Store.{first_entry, editions, is_store, numbers};
-ghost use Rattle.rules.specs.Answers.{place_said, list_said};
 ghost use Rattle.rules.specs.Editions.{storing_says, after_storing, finding_says, listing_says, after_listing};
 ghost use Rattle.laws.specs.StoreWalk.{named_says, EditionAt};
 
 use edition::two;
-use rules::store::{Named, Walk};
-use rules::{ListAnswer, PlaceAnswer, Refusal};
+use rules::Refusal;
 use storing::{room_for, write_at};
 use walk::whole;
 
-// What the store has of the edition that is named. Any number may be named; what two bytes cannot hold is the number of none.
-pub fn named(store: &[u8], edition: u32) -> Named
+// The place at which the edition that is named starts, or that there is none; 11 where the bytes are no store. Any number may be named; what two bytes
+// cannot hold is the number of none.
+pub fn named(store: &[u8], edition: u32) -> Result<Option<usize>, Refusal>
     ensures { result ≡ named_says edition store.now }
 {
-    match whole(store, edition) {
-        Walk::Unsound => Named::Unsound,
-        Walk::Store(w) => {
-            if w.known {
-                Named::Starts(w.start)
-            } else {
-                Named::Unknown
-            }
-        }
-    }
+    Ok(whole(store, edition)?.start)
 }
 
 // Whether the edition that starts at a place has a column for n readings. Inner: `quality::with_column` passes the place of an edition.
@@ -53,28 +43,20 @@ pub fn column(store: &[u8], start: usize, n: usize) -> usize
 
 // An edition more, written where the store ends, and the place at which it starts.
 #[tactic(auto, using(laws::proofs::Stored::stored_within), unfolding(rules::specs::Editions::left_by))]
-pub fn store(store: &mut [u8], edition: &[u8]) -> PlaceAnswer
-    ensures result_value { place_said result ≡ storing_says store.old edition.now }
+pub fn store(store: &mut [u8], edition: &[u8]) -> Result<usize, Refusal>
+    ensures result_value { result ≡ storing_says store.old edition.now }
     ensures store_after { store.new ≡ after_storing store.old edition.now }
 {
-    match room_for(&*store, edition) {
-        PlaceAnswer::Refused(refusal) => PlaceAnswer::Refused(refusal),
-        PlaceAnswer::Answers(start) => {
-            write_at(store, start, edition);
-            PlaceAnswer::Answers(start)
-        }
-    }
+    let start = room_for(&*store, edition)?;
+    write_at(store, start, edition);
+    Ok(start)
 }
 
 // The place at which the edition that is named starts.
-pub fn find(store: &[u8], edition: u32) -> PlaceAnswer
-    ensures { place_said result ≡ finding_says store.now edition }
+pub fn find(store: &[u8], edition: u32) -> Result<usize, Refusal>
+    ensures { result ≡ finding_says store.now edition }
 {
-    match named(store, edition) {
-        Named::Unsound => PlaceAnswer::Refused(Refusal::Unsound),
-        Named::Unknown => PlaceAnswer::Refused(Refusal::NoEdition),
-        Named::Starts(start) => PlaceAnswer::Answers(start),
-    }
+    named(store, edition)?.ok_or(Refusal::NoEdition)
 }
 
 // The numbers of the editions of a store, so many of them as there are, from the start of a list.
@@ -83,29 +65,21 @@ fn fill(store: &[u8], count: usize, out: &mut [u32])
     ensures { out.new ≡ numbers (editions store.now) ++ drop count out.old }
 {
     let mut at = 0;
-    let mut i = 0;
-    while i < count {
+    for i in 0..count {
         out[i] = two(store, at + 3) as u32;
-        at = at + (2 + two(store, at) as usize);
-        i += 1;
+        at += 2 + two(store, at) as usize;
     }
 }
 
 // The numbers of the editions stored, in a lent list, and how many there are.
-pub fn list(store: &[u8], out: &mut [u32]) -> ListAnswer
-    ensures result_value { list_said result ≡ listing_says store.now out.old }
+pub fn list(store: &[u8], out: &mut [u32]) -> Result<usize, Refusal>
+    ensures result_value { result ≡ listing_says store.now out.old }
     ensures out_after { out.new ≡ after_listing store.now out.old }
 {
-    match whole(store, 0) {
-        Walk::Unsound => ListAnswer::Refused(Refusal::Unsound),
-        Walk::Store(w) => {
-            let count = w.count;
-            if out.len() < count {
-                ListAnswer::Refused(Refusal::Room)
-            } else {
-                fill(store, count, out);
-                ListAnswer::Answers(count)
-            }
-        }
+    let count = whole(store, 0)?.count;
+    if out.len() < count {
+        return Err(Refusal::Room);
     }
+    fill(store, count, out);
+    Ok(count)
 }

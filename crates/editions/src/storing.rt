@@ -1,37 +1,30 @@
 // An edition more: where it goes, or why it does not, and how it is written there.
 ghost use Rattle.std.specs.Prelude.{◌≡◌, ◌+◌, ◌≤◌, length};
 ghost use Rattle.rules.specs.Store.{stored_at};
-ghost use Rattle.rules.specs.Answers.{place_said};
 ghost use Rattle.rules.specs.Editions.{storing_says};
 
 use crate::edition::{accepted, two};
 use crate::walk::{MOST_EDITIONS, whole};
-use rules::store::Walk;
-use rules::{PlaceAnswer, Refusal};
+use rules::Refusal;
 
 // Where an edition more goes, or why it does not.
-pub fn room_for(store: &[u8], edition: &[u8]) -> PlaceAnswer
-    ensures { place_said result ≡ storing_says store.now edition.now }
+pub fn room_for(store: &[u8], edition: &[u8]) -> Result<usize, Refusal>
+    ensures { result ≡ storing_says store.now edition.now }
 {
-    match whole(store, 0) {
-        Walk::Unsound => PlaceAnswer::Refused(Refusal::Unsound),
-        Walk::Store(w) => {
-            if !accepted(edition) {
-                return PlaceAnswer::Refused(Refusal::Unsound);
-            }
-            if (two(edition, 3) as u32) < w.least {
-                return PlaceAnswer::Refused(Refusal::NotRising);
-            }
-            if w.count == MOST_EDITIONS {
-                return PlaceAnswer::Refused(Refusal::Room);
-            }
-            let end = w.end;
-            if store.len() - end < edition.len() {
-                return PlaceAnswer::Refused(Refusal::Room);
-            }
-            PlaceAnswer::Answers(end)
-        }
+    let w = whole(store, 0)?;
+    if !accepted(edition) {
+        return Err(Refusal::Unsound);
     }
+    if (two(edition, 3) as u32) < w.least {
+        return Err(Refusal::NotRising);
+    }
+    if w.count == MOST_EDITIONS {
+        return Err(Refusal::Room);
+    }
+    if store.len() - w.end < edition.len() {
+        return Err(Refusal::Room);
+    }
+    Ok(w.end)
 }
 
 // An entry at a place, and an end after it. Inner: `store` writes where there is room.

@@ -1,18 +1,17 @@
 // Readings that come as bytes, four to each, as in a record.
-ghost use Rattle.std.specs.Prelude.{◌≡◌, ◌+◌, ◌*◌, ◌≤◌, length};
-ghost use Rattle.rules.specs.Lot.{most};
+ghost use Rattle.std.specs.Prelude.{◌≡◌, ◌+◌, ◌*◌, ◌≤◌, length, IfOk};
+ghost use Rattle.rules.specs.Lot.{most, in_places};
 ghost use Rattle.rules.specs.Record.{four, fours, part};
-ghost use Rattle.rules.specs.Answers.{totals_said};
-ghost use Rattle.laws.specs.Totalled.{walk_says, Placed};
+ghost use Rattle.laws.specs.Totalled.{walk_says, said_of};
 
-use crate::number::{signed, word};
+use crate::number::word;
 use readings::pass;
-use rules::{MOST, Thousandths, Totals, TotalsAnswer};
+use rules::{MOST, Refusal, Thousandths, Totals};
 
-// What a walk says of some readings, their totals or a refusal; and the readings in their places, to be used only where none is out of range.
+// Some readings, each in its place, and their totals.
 #[derive(Clone, Copy)]
 pub struct Walked {
-    pub said: TotalsAnswer,
+    pub totals: Totals,
     pub readings: [Thousandths; MOST],
 }
 
@@ -21,38 +20,28 @@ fn reading(bytes: &[u8], i: usize) -> i32
     requires { 4 * i + 4 ≤ length bytes.now }
     ensures { result ≡ four (part (4 * i) 4 bytes.now) }
 {
-    signed(word(bytes, 4 * i))
+    word(bytes, 4 * i).cast_signed()
 }
 
-// One pass over the first n readings. Inner: a record's reader and the notebook's row ask for no more than a lot and the bytes hold.
-pub fn walk(bytes: &[u8], n: usize) -> Walked
+// One pass over the first n readings, which stops at one out of range. Inner: a record's reader and the notebook's row ask for no more than a lot and
+// the bytes hold.
+pub fn walk(bytes: &[u8], n: usize) -> Result<Walked, Refusal>
     requires { (n ≤ most) × (4 * n ≤ length bytes.now) }
-    ensures said_value { totals_said result.said ≡ walk_says (fours n bytes.now) }
-    ensures placed { Placed n (fours n bytes.now) result.readings }
+    ensures said_value { said_of (λ w. w.totals) result ≡ walk_says (fours n bytes.now) }
+    ensures placed { IfOk result (λ w. w.readings ≡ in_places n (fours n bytes.now)) }
 {
-    let mut a = Totals {
-        n: n as u32,
-        t: 0,
-        z: 0,
+    let mut walked = Walked {
+        totals: Totals {
+            n: n as u32,
+            t: 0,
+            z: 0,
+        },
+        readings: [Thousandths(0); MOST],
     };
-    let mut readings = [Thousandths(0); MOST];
-    let mut i = 0;
-    while i < n {
+    for i in 0..n {
         let x = reading(bytes, i);
-        match pass(a, x) {
-            TotalsAnswer::Refused(refusal) => {
-                return Walked {
-                    said: TotalsAnswer::Refused(refusal),
-                    readings: readings,
-                };
-            }
-            TotalsAnswer::Answers(more) => a = more,
-        }
-        readings[i] = Thousandths(x);
-        i += 1;
+        walked.totals = pass(walked.totals, x)?;
+        walked.readings[i] = Thousandths(x);
     }
-    Walked {
-        said: TotalsAnswer::Answers(a),
-        readings: readings,
-    }
+    Ok(walked)
 }

@@ -6,8 +6,6 @@ pub mod sheet;
 
 ghost use Rattle.std.specs.Prelude.{◌≡◌};
 ghost use Rattle.rules.specs.Notebook.{lent_limit};
-ghost use Rattle.rules.specs.Answers.{mean_said, deviation_said, evaluation_said, pay_said, mixture_said, write_said, list_said, place_said, row_said};
-ghost use Rattle.rules.specs.Sheet.{verdict_number};
 ghost use Rattle.rules.specs.Host.{refusal_part, host_mean, host_deviation, host_percentages, host_payment, host_pair, host_mixture_limits, host_written, host_listed, host_place, host_row};
 
 use rules::host::{
@@ -15,8 +13,7 @@ use rules::host::{
     HostPlace, HostRefusal, HostRow, HostTried, HostWritten,
 };
 use rules::{
-    DeviationAnswer, Evaluation, Limit, Limits, ListAnswer, MeanAnswer, MixtureAnswer, PayAnswer,
-    PlaceAnswer, Refusal, RowAnswer, Thousandths, Verdict, WriteAnswer,
+    Characteristics, Limit, LotLimits, Mean, Pair, Payment, Percentages, Refusal, Row, Thousandths,
 };
 
 // The part with which every answer begins, where nothing is refused.
@@ -26,31 +23,37 @@ pub const UNREFUSED: HostRefusal = HostRefusal { number: 0 };
 pub fn refused(refusal: Refusal) -> HostRefusal
     ensures { result ≡ refusal_part refusal }
 {
-    let number = refusal.number();
-    HostRefusal { number: number }
+    HostRefusal {
+        number: refusal.number(),
+    }
 }
 
 // A limit given as a number and a presence: absent where the presence is 0, and the number is not read; present where it is any other.
 pub fn limit(number: i32, presence: u32) -> Limit
     ensures { result ≡ lent_limit number presence }
 {
-    if presence == 0 {
-        Limit::Absent
-    } else {
-        Limit::At(Thousandths(number))
+    (presence != 0).then_some(Thousandths(number))
+}
+
+// Two limits that are given so.
+pub fn limits(upper: i32, upper_present: u32, lower: i32, lower_present: u32) -> LotLimits
+    ensures { result ≡ record { upper = lent_limit upper upper_present; lower = lent_limit lower lower_present } }
+{
+    LotLimits {
+        upper: limit(upper, upper_present),
+        lower: limit(lower, lower_present),
     }
 }
 
-pub fn mean(answer: MeanAnswer) -> HostMean
-    ensures { result ≡ host_mean (mean_said answer) }
+pub fn mean(answer: Result<Mean, Refusal>) -> HostMean
+    ensures { result ≡ host_mean answer }
 {
     match answer {
-        MeanAnswer::Refused(refusal) => HostMean {
+        Err(refusal) => HostMean {
             refusal: refused(refusal),
-            total: 0,
-            count: 0,
+            ..HostMean::default()
         },
-        MeanAnswer::Answers(mean) => HostMean {
+        Ok(mean) => HostMean {
             refusal: UNREFUSED,
             total: mean.total.0,
             count: mean.count,
@@ -58,33 +61,30 @@ pub fn mean(answer: MeanAnswer) -> HostMean
     }
 }
 
-pub fn deviation(answer: DeviationAnswer) -> HostDeviation
-    ensures { result ≡ host_deviation (deviation_said answer) }
+pub fn deviation(answer: Result<Thousandths, Refusal>) -> HostDeviation
+    ensures { result ≡ host_deviation answer }
 {
     match answer {
-        DeviationAnswer::Refused(refusal) => HostDeviation {
+        Err(refusal) => HostDeviation {
             refusal: refused(refusal),
-            deviation: 0,
+            ..HostDeviation::default()
         },
-        DeviationAnswer::Answers(s) => HostDeviation {
+        Ok(s) => HostDeviation {
             refusal: UNREFUSED,
             deviation: s.0,
         },
     }
 }
 
-pub fn percentages(answer: Evaluation) -> HostPercentages
-    ensures { result ≡ host_percentages (evaluation_said answer) }
+pub fn percentages(answer: Result<Percentages, Refusal>) -> HostPercentages
+    ensures { result ≡ host_percentages answer }
 {
     match answer {
-        Evaluation::Refused(refusal) => HostPercentages {
+        Err(refusal) => HostPercentages {
             refusal: refused(refusal),
-            upper: 0,
-            lower: 0,
-            pwl: 0,
-            tried: HostTried { upper: 0, lower: 0 },
+            ..HostPercentages::default()
         },
-        Evaluation::Answers(p) => HostPercentages {
+        Ok(p) => HostPercentages {
             refusal: UNREFUSED,
             upper: p.upper.0,
             lower: p.lower.0,
@@ -97,47 +97,27 @@ pub fn percentages(answer: Evaluation) -> HostPercentages
     }
 }
 
-fn verdict(verdict: Verdict) -> u32
-    ensures { result ≡ verdict_number verdict }
-{
-    match verdict {
-        Verdict::Accepted => 0,
-        Verdict::Rejected => 1,
-    }
-}
-
-pub fn payment(answer: PayAnswer) -> HostPayment
-    ensures { result ≡ host_payment (pay_said answer) }
+pub fn payment(answer: Result<Payment, Refusal>) -> HostPayment
+    ensures { result ≡ host_payment answer }
 {
     match answer {
-        PayAnswer::Refused(refusal) => HostPayment {
+        Err(refusal) => HostPayment {
             refusal: refused(refusal),
-            composite: 0,
-            vma: 0,
-            voids: 0,
-            density: 0,
-            lot: 0,
-            pay: 0,
+            ..HostPayment::default()
         },
-        PayAnswer::Answers(p) => {
-            let vma = p.vma;
-            let voids = p.voids;
-            let density = p.density;
-            let lot = p.lot;
-            HostPayment {
-                refusal: UNREFUSED,
-                composite: p.composite.0,
-                vma: verdict(vma),
-                voids: verdict(voids),
-                density: verdict(density),
-                lot: verdict(lot),
-                pay: p.pay.0,
-            }
-        }
+        Ok(p) => HostPayment {
+            refusal: UNREFUSED,
+            composite: p.composite.0,
+            vma: p.vma as u32,
+            voids: p.voids as u32,
+            density: p.density as u32,
+            lot: p.lot as u32,
+            pay: p.pay.0,
+        },
     }
 }
 
-fn pair(limits: Limits) -> HostPair
+fn pair(limits: Pair<Thousandths>) -> HostPair
     ensures { result ≡ host_pair limits }
 {
     HostPair {
@@ -146,17 +126,17 @@ fn pair(limits: Limits) -> HostPair
     }
 }
 
-pub fn mixture_limits(answer: MixtureAnswer) -> HostMixtureLimits
-    ensures { result ≡ host_mixture_limits (mixture_said answer) }
+pub fn mixture_limits(
+    answer: Result<Characteristics<Pair<Thousandths>>, Refusal>,
+) -> HostMixtureLimits
+    ensures { result ≡ host_mixture_limits answer }
 {
     match answer {
-        MixtureAnswer::Refused(refusal) => HostMixtureLimits {
+        Err(refusal) => HostMixtureLimits {
             refusal: refused(refusal),
-            vma: HostPair { lower: 0, upper: 0 },
-            voids: HostPair { lower: 0, upper: 0 },
-            density: HostPair { lower: 0, upper: 0 },
+            ..HostMixtureLimits::default()
         },
-        MixtureAnswer::Answers(l) => HostMixtureLimits {
+        Ok(l) => HostMixtureLimits {
             refusal: UNREFUSED,
             vma: pair(l.vma),
             voids: pair(l.voids),
@@ -165,62 +145,60 @@ pub fn mixture_limits(answer: MixtureAnswer) -> HostMixtureLimits
     }
 }
 
-pub fn written(answer: WriteAnswer) -> HostWritten
-    ensures { result ≡ host_written (write_said answer) }
+pub fn written(answer: Result<usize, Refusal>) -> HostWritten
+    ensures { result ≡ host_written answer }
 {
     match answer {
-        WriteAnswer::Refused(refusal) => HostWritten {
+        Err(refusal) => HostWritten {
             refusal: refused(refusal),
-            size: 0,
+            ..HostWritten::default()
         },
-        WriteAnswer::Answers(size) => HostWritten {
+        Ok(size) => HostWritten {
             refusal: UNREFUSED,
-            size: size,
+            size,
         },
     }
 }
 
-pub fn listed(answer: ListAnswer) -> HostListed
-    ensures { result ≡ host_listed (list_said answer) }
+pub fn listed(answer: Result<usize, Refusal>) -> HostListed
+    ensures { result ≡ host_listed answer }
 {
     match answer {
-        ListAnswer::Refused(refusal) => HostListed {
+        Err(refusal) => HostListed {
             refusal: refused(refusal),
-            items: 0,
+            ..HostListed::default()
         },
-        ListAnswer::Answers(items) => HostListed {
+        Ok(items) => HostListed {
             refusal: UNREFUSED,
-            items: items,
+            items,
         },
     }
 }
 
-pub fn place(answer: PlaceAnswer) -> HostPlace
-    ensures { result ≡ host_place (place_said answer) }
+pub fn place(answer: Result<usize, Refusal>) -> HostPlace
+    ensures { result ≡ host_place answer }
 {
     match answer {
-        PlaceAnswer::Refused(refusal) => HostPlace {
+        Err(refusal) => HostPlace {
             refusal: refused(refusal),
-            start: 0,
+            ..HostPlace::default()
         },
-        PlaceAnswer::Answers(start) => HostPlace {
+        Ok(start) => HostPlace {
             refusal: UNREFUSED,
-            start: start,
+            start,
         },
     }
 }
 
-pub fn row(answer: RowAnswer) -> HostRow
-    ensures { result ≡ host_row (row_said answer) }
+pub fn row(answer: Result<Row, Refusal>) -> HostRow
+    ensures { result ≡ host_row answer }
 {
     match answer {
-        RowAnswer::Refused(refusal) => HostRow {
+        Err(refusal) => HostRow {
             refusal: refused(refusal),
-            mean: 0.0,
-            deviation: 0.0,
-            pwl: 0.0,
+            ..HostRow::default()
         },
-        RowAnswer::Answers(row) => HostRow {
+        Ok(row) => HostRow {
             refusal: UNREFUSED,
             mean: row.mean,
             deviation: row.deviation,

@@ -1,12 +1,12 @@
 // A lot as a host in C holds it, turned into a lot in memory and back.
 ghost use Rattle.std.specs.Prelude.{◌≡◌};
-ghost use Rattle.rules.specs.Answers.{outcome_said, read_said};
-ghost use Rattle.rules.specs.Host.{host_refusal, held_limit, held_lot, limit_numbers, host_lot, host_read};
+ghost use Rattle.rules.specs.Entries.{read_said};
+ghost use Rattle.rules.specs.Host.{held_limit, held_lot, limit_numbers, host_lot, host_read};
 
 use crate::{UNREFUSED, limit, refused};
 use lots::numbers;
-use rules::host::{HostLimit, HostLot, HostRead, HostRefusal};
-use rules::{HeldLot, Limit, Outcome, ReadAnswer, Thousandths};
+use rules::host::{HostLimit, HostLot, HostRead};
+use rules::{HeldLot, Limit, Refusal, Thousandths};
 
 fn held_limit(given: HostLimit) -> Limit
     ensures { result ≡ held_limit given }
@@ -48,11 +48,8 @@ fn limit_numbers(limit: Limit) -> HostLimit
     ensures { result ≡ limit_numbers limit }
 {
     match limit {
-        Limit::Absent => HostLimit {
-            number: 0,
-            presence: 0,
-        },
-        Limit::At(z) => HostLimit {
+        None => HostLimit::default(),
+        Some(z) => HostLimit {
             number: z.0,
             presence: 1,
         },
@@ -62,13 +59,10 @@ fn limit_numbers(limit: Limit) -> HostLimit
 fn host_lot(lot: HeldLot) -> HostLot
     ensures { result ≡ host_lot lot }
 {
-    let upper = lot.upper;
-    let lower = lot.lower;
-    let held = lot.readings;
-    let readings = numbers(held);
+    let readings = numbers(lot.readings);
     HostLot {
-        upper: limit_numbers(upper),
-        lower: limit_numbers(lower),
+        upper: limit_numbers(lot.upper),
+        lower: limit_numbers(lot.lower),
         count: lot.count,
         first: readings[0],
         second: readings[1],
@@ -90,21 +84,19 @@ fn host_lot(lot: HeldLot) -> HostLot
     }
 }
 
-fn said_part(said: Outcome) -> HostRefusal
-    ensures { result ≡ host_refusal (outcome_said said) }
-{
-    match said {
-        Outcome::Refused(refusal) => refused(refusal),
-        Outcome::Answers => UNREFUSED,
-    }
-}
-
-pub fn read(answer: ReadAnswer) -> HostRead
+// Where the record is refused, the lot is blank.
+#[tactic(auto, unfolding(rules::specs::Entries::held, rules::specs::Host::host_lot))]
+pub fn read(answer: Result<HeldLot, Refusal>) -> HostRead
     ensures { result ≡ host_read (read_said answer) }
 {
-    let said = answer.said;
-    HostRead {
-        refusal: said_part(said),
-        lot: host_lot(answer.lot),
+    match answer {
+        Err(refusal) => HostRead {
+            refusal: refused(refusal),
+            ..HostRead::default()
+        },
+        Ok(lot) => HostRead {
+            refusal: UNREFUSED,
+            lot: host_lot(lot),
+        },
     }
 }

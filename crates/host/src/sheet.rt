@@ -1,11 +1,10 @@
 // A pay sheet from the plain numbers that a host in C gives, and what the check of one gives back.
 ghost use Rattle.std.specs.Prelude.{◌≡◌};
-ghost use Rattle.rules.specs.Answers.{check_said};
-ghost use Rattle.rules.specs.HostSheet.{held_sheet, host_found, host_checked};
+ghost use Rattle.rules.specs.HostSheet.{held_sheet, host_checked};
 
 use crate::{UNREFUSED, refused};
 use rules::host::{HostChecked, HostSheet};
-use rules::{Cents, CheckAnswer, Composite, Finding, Hundredths, Sheet, SheetVerdict};
+use rules::{Cents, Composite, Difference, Hundredths, Refusal, Sheet, SheetVerdict};
 
 pub fn held_sheet(sheet: HostSheet) -> Sheet
     ensures { result ≡ held_sheet sheet }
@@ -20,38 +19,25 @@ pub fn held_sheet(sheet: HostSheet) -> Sheet
     }
 }
 
-fn found(finding: Finding) -> HostChecked
-    ensures { result ≡ host_found finding }
+pub fn checked(answer: Result<Option<Difference>, Refusal>) -> HostChecked
+    ensures { result ≡ host_checked answer }
 {
-    match finding {
-        Finding::Accepted => HostChecked {
+    match answer {
+        Err(refusal) => HostChecked {
+            refusal: refused(refusal),
+            ..HostChecked::default()
+        },
+        Ok(None) => HostChecked {
             refusal: UNREFUSED,
             accepted: 1,
-            entry: 0,
-            sheet: 0,
-            ours: 0,
+            ..HostChecked::default()
         },
-        Finding::Differs(difference) => HostChecked {
+        Ok(Some(difference)) => HostChecked {
             refusal: UNREFUSED,
             accepted: 0,
             entry: difference.entry,
             sheet: difference.first,
             ours: difference.second,
         },
-    }
-}
-
-pub fn checked(answer: CheckAnswer) -> HostChecked
-    ensures { result ≡ host_checked (check_said answer) }
-{
-    match answer {
-        CheckAnswer::Refused(refusal) => HostChecked {
-            refusal: refused(refusal),
-            accepted: 0,
-            entry: 0,
-            sheet: 0,
-            ours: 0,
-        },
-        CheckAnswer::Answers(finding) => found(finding),
     }
 }

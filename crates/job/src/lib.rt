@@ -1,12 +1,11 @@
 // A job cut into lots, as document 000 cuts it.
 #![tactic(auto)]
 
-ghost use Rattle.std.specs.Prelude.{◌≡◌, ◌++◌, ◌+◌, ◌*◌, ◌≤◌, ◌<◌, length, drop, set};
+ghost use Rattle.std.specs.Prelude.{◌≡◌, ◌++◌, ◌*◌, ◌≤◌, length, drop};
 ghost use Rattle.rules.specs.Job.{longest_job, cut, item_numbers};
-ghost use Rattle.rules.specs.Answers.{list_said};
 ghost use Rattle.rules.specs.Entries.{cut_says, after_cut};
 
-use rules::{ListAnswer, Refusal};
+use rules::Refusal;
 
 // The most sublots that are cut.
 const LONGEST_JOB: usize = 4096;
@@ -17,57 +16,44 @@ fn lots(sublots: usize) -> usize
     requires { sublots ≤ longest_job }
     ensures { result ≡ length (cut sublots) }
 {
-    if sublots == 0 {
-        0
-    } else if sublots < 8 {
-        1
-    } else {
-        (sublots + 2) / 10
+    match sublots {
+        0 => 0,
+        1..=7 => 1,
+        _ => (sublots + 2) / 10,
     }
 }
 
-// Two numbers at the places of item i.
-fn put(out: &mut [u32], i: usize, start: u32, count: u32)
-    requires { 2 * i + 1 < length out.old }
-    ensures { out.new ≡ set (set out.old (2 * i) start) (2 * i + 1) count }
-{
-    out[2 * i] = start;
-    out[2 * i + 1] = count;
-}
-
 // Fills in where each lot starts and how many sublots it has: ten, and the last what is left.
+#[tactic(auto, using(laws::proofs::JobNumbers::all_filled))]
 fn fill(sublots: usize, lots: usize, out: &mut [u32])
     requires { (sublots ≤ longest_job) × (lots ≡ length (cut sublots)) × (2 * lots ≤ length out.old) }
     ensures { out.new ≡ item_numbers (cut sublots) ++ drop (2 * lots) out.old }
 {
-    let mut start = 0;
-    let mut i = 0;
-    while i + 1 < lots {
-        put(out, i, start, 10);
-        start += 10;
-        i += 1;
+    let Some(last) = lots.checked_sub(1) else {
+        return;
+    };
+    for i in 0..last {
+        out[2 * i] = 10 * i as u32;
+        out[2 * i + 1] = 10;
     }
-    if i < lots {
-        put(out, i, start, sublots as u32 - start);
-    }
+    out[2 * last] = 10 * last as u32;
+    out[2 * last + 1] = (sublots - 10 * last) as u32;
 }
 
 // The lots of a job of so many sublots, from the start of a lent list, two numbers to each: the sublot with which it starts, counted from 0, and
 // how many it has. What lies past them stays.
 #[tactic(auto, using(laws::proofs::JobLots::no_more_lots, laws::proofs::JobAnswers::refused_cut_keeps, laws::proofs::JobAnswers::long_job_is_refused, laws::proofs::JobAnswers::short_list_is_refused, laws::proofs::JobAnswers::cut_is_answered))]
-pub fn cut(sublots: usize, out: &mut [u32]) -> ListAnswer
-    ensures result_value { list_said result ≡ cut_says sublots out.old }
+pub fn cut(sublots: usize, out: &mut [u32]) -> Result<usize, Refusal>
+    ensures result_value { result ≡ cut_says sublots out.old }
     ensures out_after { out.new ≡ after_cut sublots out.old }
 {
     if LONGEST_JOB < sublots {
-        ListAnswer::Refused(Refusal::Number)
-    } else {
-        let items = lots(sublots);
-        if out.len() < 2 * items {
-            ListAnswer::Refused(Refusal::Room)
-        } else {
-            fill(sublots, items, out);
-            ListAnswer::Answers(items)
-        }
+        return Err(Refusal::Number);
     }
+    let items = lots(sublots);
+    if out.len() < 2 * items {
+        return Err(Refusal::Room);
+    }
+    fill(sublots, items, out);
+    Ok(items)
 }

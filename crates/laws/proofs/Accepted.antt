@@ -7,24 +7,20 @@ use borrow.Author.Tests.{leb-true, not-false}
 use lib.Dec.{leb}
 use lib.IntN.{ℤ}
 use lib.ListN.{length}
-use Rattle.rules.specs.declared.Limit.{Limit}
-use Rattle.rules.specs.declared.Limit.TheVariants.{Absent}
+use Rattle.std.specs.Prelude.{None, Ok, Err, Option, Some}
+use Rattle.rules.specs.Units.{Limit}
 use Rattle.rules.specs.declared.Totals.{Totals}
-use Rattle.rules.specs.declared.TotalsAnswer.{TotalsAnswer}
 use Rattle.rules.specs.declared.Columned.{Columned}
-use Rattle.rules.specs.declared.ColumnAnswer.{ColumnAnswer}
-use Rattle.rules.specs.declared.store.Named.{Named}
 use Rattle.rules.specs.declared.Refusal.{Refusal}
 use Rattle.rules.specs.declared.Percentages.{Percentages}
-use Rattle.rules.specs.Said.{Case, refused, answers, checked}
+use Rattle.rules.specs.Said.{Case, checked, Said}
 use Rattle.rules.specs.Lot.{Lot, lot_of, most}
 use Rattle.rules.specs.Table.{Table, Found, has_column, entries}
 use Rattle.rules.specs.Percent.{Rule, totals}
 use Rattle.rules.specs.Refusals.{allowed, count_case, out_of_range, any_out, range_case, unlimited_case, crossed, crossed_case, store_case, edition_case, column_case}
 use Rattle.rules.specs.Meets.{readings_meet, limits_meet, lot_meets, counted_meets, column_meets, evaluation_meets}
-use Rattle.rules.specs.Answers.{totals_said}
 use Rattle.rules.specs.Entries.{percentages_of, percentages, evaluated}
-use Rattle.laws.specs.StoreWalk.{table_at}
+use Rattle.laws.specs.StoreWalk.{table_at, NamedIn}
 use Rattle.laws.specs.Totalled.{totals_says, found_say, with_column_say, columned_said, lot_totals, totalled, by_table}
 use Rattle.laws.specs.Bounds.{Accepted, Bounded}
 use Rattle.laws.specs.Moved.{Counted}
@@ -39,20 +35,20 @@ count_allowed n e =
     let h : (leb 2 n ≡ true) × (leb n most ≡ true) = (and-eq-true_iff (leb 2 n) (leb n most)).0 (not-false (allowed n) e) in
     (leb-true 2 n h.0, leb-true n most h.1)
 
-pub readings_accepted : (xs : List ℤ) → checked (readings_meet xs) ≡ answers tt → Accepted xs
+pub readings_accepted : (xs : List ℤ) → checked (readings_meet xs) ≡ Ok tt → Accepted xs
 unfolding readings_meet
 readings_accepted xs e =
-    let m = none_met (count_case (length xs)) (range_case Absent Absent xs ∷ []) e in
+    let m = none_met (count_case (length xs)) (range_case None None xs ∷ []) e in
     let n = count_allowed (length xs) m.0 in
-    record { least = n.0; few = n.1; all_in_range = (none_met (range_case Absent Absent xs) [] m.1).0 }
+    record { least = n.0; few = n.1; all_in_range = (none_met (range_case None None xs) [] m.1).0 }
 
 -- Readings whose totals are answered are not refused, and the totals are theirs and in bounds.
 pub record ReadingsTotalled (xs : List ℤ) (a : Totals) : Type 0 where
-  pub unrefused : checked (readings_meet xs) ≡ answers tt
+  pub unrefused : checked (readings_meet xs) ≡ Ok tt
   pub same : totals (length xs) xs ≡ a
   pub bounded : Bounded a
 
-pub readings_totalled : (xs : List ℤ) {t : TotalsAnswer} {a : Totals} → totals_said t ≡ totals_says xs → t ≡ TotalsAnswer.Answers a → ReadingsTotalled xs a
+pub readings_totalled : (xs : List ℤ) {t : Said Totals} {a : Totals} → t ≡ totals_says xs → t ≡ Ok a → ReadingsTotalled xs a
 unfolding totals_says
 readings_totalled xs e h =
     let r = totals_answered (readings_meet xs) (totals (length xs) xs) e h in
@@ -69,12 +65,12 @@ pub record LotAccepted (lot : Lot) : Type 0 where
   pub uncrossed : crossed lot.upper lot.lower ≡ false
 
 -- Where none of refusals 5 to 7 applies to a lot, none of its readings is out of range.
-pub readings_in_range : (lot : Lot) → checked (lot_meets lot) ≡ answers tt → any_out lot.readings ≡ false
+pub readings_in_range : (lot : Lot) → checked (lot_meets lot) ≡ Ok tt → any_out lot.readings ≡ false
 readings_in_range lot e =
     let range = none_met (range_case lot.upper lot.lower lot.readings) (limits_meet lot.upper lot.lower) e in
     (neither (out_of_range lot.upper || out_of_range lot.lower) (any_out lot.readings) range.0).1
 
-pub lot_accepted : (lot : Lot) → checked (counted_meets lot) ≡ answers tt → LotAccepted lot
+pub lot_accepted : (lot : Lot) → checked (counted_meets lot) ≡ Ok tt → LotAccepted lot
 lot_accepted lot e =
     let upper : Limit = lot.upper in
     let lower : Limit = lot.lower in
@@ -94,36 +90,36 @@ lot_accepted lot e =
     }
 
 -- Where no refusal is given for a column, there is one.
-pub column_found : (found : Found) → checked (column_meets found) ≡ answers tt → has_column found ≡ true
+pub column_found : (found : Found) → checked (column_meets found) ≡ Ok tt → has_column found ≡ true
 column_found found e =
     let edition = none_met (edition_case found) (column_case found ∷ []) e in
     not-false (has_column found) (none_met (column_case found) [] edition.1).0
 
 -- To look for the store before all else and for a column after it is to have these cases first and last.
 pub totalled_with_column :
-    (named : Named) (s : List ℕ) (meets : Lot → List Case) (lot : Lot) →
+    (named : Said (Option ℕ)) (s : List ℕ) → NamedIn s named → (meets : Lot → List Case) (lot : Lot) →
     with_column_say named s (totalled meets lot) ≡
     totalled (λ l. store_case (table_at named s l.n) ∷ (meets l ++ column_meets (table_at named s l.n))) lot
 unfolding totalled
-totalled_with_column Named.Unsound s meets lot = sym (ruled_met _ _ _ refl)
-totalled_with_column Named.Unknown s meets lot =
-    ruled_then (meets lot) _ (lot_totals lot) (found_say (table_at Named.Unknown s)) (λ r. refl) refl
+totalled_with_column (Err r) s is meets lot = ap Err is ∙ sym (ruled_met _ _ _ refl)
+totalled_with_column (Ok None) s is meets lot =
+    ruled_then (meets lot) _ (lot_totals lot) (found_say (table_at (Ok None) s)) (λ r. refl) refl
     ∙ sym (ruled_passed _ _ _ refl)
-totalled_with_column (Named.Starts start) s meets lot =
-    ruled_then (meets lot) _ (lot_totals lot) (found_say (table_at (Named.Starts start) s)) (λ r. refl) refl
+totalled_with_column (Ok (Some start)) s is meets lot =
+    ruled_then (meets lot) _ (lot_totals lot) (found_say (table_at (Ok (Some start)) s)) (λ r. refl) refl
     ∙ sym (ruled_passed _ _ _ (ap not (edition_is_found _ lot.n).0))
 
 -- A lot whose totals are answered where a percentage is asked for is not refused, and the totals are its own and in bounds, if its readings are as many
 -- as it says.
 pub record LotTotalled (table : Table) (lot : Lot) (a : Totals) : Type 0 where
-  pub unrefused : checked (by_table table lot) ≡ answers tt
+  pub unrefused : checked (by_table table lot) ≡ Ok tt
   pub same : lot_totals lot ≡ a
   pub accepted : LotAccepted lot
   pub bounded : Bounded a
 
 pub lot_totalled :
-    (table : Table) (lot : Lot) {t : ColumnAnswer} {c : Columned} → Counted lot →
-    columned_said t ≡ totalled (by_table table) lot → t ≡ ColumnAnswer.Answers c → LotTotalled table lot c.totals
+    (table : Table) (lot : Lot) {t : Said Columned} {c : Columned} → Counted lot →
+    columned_said t ≡ totalled (by_table table) lot → t ≡ Ok c → LotTotalled table lot c.totals
 unfolding totalled evaluation_meets
 lot_totalled table lot counted e h =
     let r = ruled_answers (by_table table lot) (lot_totals lot) _ (sym e ∙ ap columned_said h) in
@@ -148,21 +144,21 @@ lent_readings h = record { least = h.least; few = h.few; all_in_range = h.all_in
 -- Where a lot's totals are answered, its evaluation is worked out from them,
 pub totalled_is_evaluated :
     (rule : Rule) {table : Table} {lot : Lot} {a : Totals} → LotTotalled table lot a →
-    answers (percentages_of rule (entries (table a.n)) a lot.upper lot.lower) ≡ evaluated rule (table lot.n) lot
+    Ok (percentages_of rule (entries (table a.n)) a lot.upper lot.lower) ≡ evaluated rule (table lot.n) lot
 unfolding evaluated
 totalled_is_evaluated rule {table} {lot} h =
-    ap (λ (b : Totals). answers (percentages_of rule (entries (table b.n)) b lot.upper lot.lower)) (sym h.same)
+    ap (λ (b : Totals). Ok (percentages_of rule (entries (table b.n)) b lot.upper lot.lower)) (sym h.same)
     ∙ sym (ruled_unrefused _ _ h.unrefused)
 
 -- and where they are refused, its evaluation is the same refusal.
 pub untotalled_is_refused :
-    (rule : Rule) (table : Table) (lot : Lot) {t : ColumnAnswer} {r : Refusal} →
-    columned_said t ≡ totalled (by_table table) lot → t ≡ ColumnAnswer.Refused r → evaluated rule (table lot.n) lot ≡ refused r
+    (rule : Rule) (table : Table) (lot : Lot) {t : Said Columned} {r : Refusal} →
+    columned_said t ≡ totalled (by_table table) lot → t ≡ Err r → evaluated rule (table lot.n) lot ≡ Err r
 unfolding evaluated totalled
 untotalled_is_refused rule table lot e h = refused_alike (by_table table lot) (lot_totals lot) _ (sym e ∙ ap columned_said h)
 
 -- An evaluation that is answered has the lot's percentages, its lot is not refused, and there is a column.
-pub answered : (rule : Rule) (found : Found) (lot : Lot) (p : Percentages) → evaluated rule found lot ≡ answers p → LotAccepted lot × (percentages rule (entries found) lot ≡ p) × (has_column found ≡ true)
+pub answered : (rule : Rule) (found : Found) (lot : Lot) (p : Percentages) → evaluated rule found lot ≡ Ok p → LotAccepted lot × (percentages rule (entries found) lot ≡ p) × (has_column found ≡ true)
 unfolding evaluated evaluation_meets
 answered rule found lot p e =
     let r = ruled_answers (evaluation_meets found lot) (percentages rule (entries found) lot) p e in

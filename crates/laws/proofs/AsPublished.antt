@@ -7,11 +7,10 @@ use native.Mathlib.Omega.{arith}
 use lib.IntN.{ℤ, pos, ◌-ℤ◌}
 use lib.ListN.{length}
 use lib.Signed.{◌≤ℤ◌, ◌<ℤ◌, ≤ℤ_refl, clash_ℤ}
+use Rattle.std.specs.Prelude.{Some, None, Ok}
 use Rattle.integers.proofs.Order.{≤ℤ_total, le_le_z, lt_le_z, lt_lt_z, le_lt_z}
-use Rattle.rules.specs.declared.Limit.{Limit}
-use Rattle.rules.specs.declared.Limit.TheVariants.{Absent, At}
+use Rattle.rules.specs.Units.{Limit}
 use Rattle.rules.specs.declared.Percentages.{Percentages}
-use Rattle.rules.specs.Said.{answers}
 use Rattle.rules.specs.Lot.{Lot}
 use Rattle.rules.specs.Table.{Found, entry, entries}
 use Rattle.rules.specs.Percent.{nearest, totals, spread, upper_distance, lower_distance, side, upper_side, lower_side}
@@ -78,20 +77,20 @@ module _ (column : List ℕ) (xs : List ℤ) (beyond : Ratio) (d : ℤ) (is : Is
 module _ (column : List ℕ) (xs : List ℤ) (some : 1 ≤ length xs) where
   upper_is_published : (upper : Limit) → UpperAsPublished column upper xs (upper_side nearest column (totals (length xs) xs) upper)
   unfolding upper_side
-  upper_is_published Absent = refl
-  upper_is_published (At u) =
+  upper_is_published None = refl
+  upper_is_published (Some u) =
       side_is_published column xs _ (upper_distance (totals (length xs) xs) u.0) (upper_beyond_is xs some u.0)
 
   lower_is_published : (lower : Limit) → LowerAsPublished column lower xs (lower_side nearest column (totals (length xs) xs) lower)
   unfolding lower_side
-  lower_is_published Absent = refl
-  lower_is_published (At l) =
+  lower_is_published None = refl
+  lower_is_published (Some l) =
       side_is_published column xs _ (lower_distance (totals (length xs) xs) l.0) (lower_beyond_is xs some l.0)
 
 -- What is answered for a lot that has as many readings as it says is as published.
 pub evaluated_as_published :
     (found : Found) (lot : Lot) (p : Percentages) → Counted lot →
-    evaluated nearest found lot ≡ answers p → AsPublished (entries found) lot.upper lot.lower lot.readings p
+    evaluated nearest found lot ≡ Ok p → AsPublished (entries found) lot.upper lot.lower lot.readings p
 unfolding percentages_of
 evaluated_as_published found lot p counted e =
     let h = answered nearest found lot p e in

@@ -9,15 +9,14 @@ use borrow.Author.Tests.{not-false}
 use lib.IntN.{ℤ, pos, neg_ℤ, nat_abs, ◌*ℤ◌}
 use lib.ListN.{length, drop, get_or}
 use lib.Signed.{le_z}
+use Rattle.std.specs.Prelude.{Some}
 use Rattle.integers.proofs.Order.{le_z_true}
 use Rattle.integers.proofs.Magnitude.{within, nat_abs_add, nat_abs_mul, nat_abs_less_taken}
 use Rattle.integers.proofs.Square.{square, square_nonneg}
 use Rattle.rules.specs.declared.Totals.{Totals}
 use Rattle.rules.specs.declared.Thousandths.{Thousandths}
-use Rattle.rules.specs.declared.Limit.{Limit}
-use Rattle.rules.specs.declared.Limit.TheVariants.{At}
+use Rattle.rules.specs.Units.{Limit, in_range}
 use Rattle.rules.specs.declared.Pair.{Pair}
-use Rattle.rules.specs.Units.{in_range}
 use Rattle.rules.specs.Lot.{most}
 use Rattle.rules.specs.Percent.{sum, squares, totals, spread}
 use Rattle.rules.specs.Refusals.{out_of_range, any_out, pair_out}
@@ -31,14 +30,14 @@ in_range_bound z e =
     within {b = 500000} {z = z} (le_z_true _ _ h.0) (le_z_true _ _ h.1)
 
 -- Where a pair is not out of range, neither its upper nor its lower limit is.
-pub pair_parts : (p : Pair) → pair_out p ≡ false → (not (in_range p.upper) ≡ false) × (not (in_range p.lower) ≡ false)
+pub pair_parts : (p : Pair ℤ) → pair_out p ≡ false → (not (in_range p.upper) ≡ false) × (not (in_range p.lower) ≡ false)
 pair_parts p = neither (not (in_range p.upper)) (not (in_range p.lower))
 
 -- How far a pair's lower limit lies below the minimum or target, and its upper limit above it.
-abbrev pub offset_below : (ℤ → Pair) → ℕ
+abbrev pub offset_below : (ℤ → Pair ℤ) → ℕ
 offset_below pair = nat_abs (pair (pos 0)).lower
 
-abbrev pub offset_above : (ℤ → Pair) → ℕ
+abbrev pub offset_above : (ℤ → Pair ℤ) → ℕ
 offset_above pair = nat_abs (pair (pos 0)).upper
 
 -- Where no reading is out of range, the first is in range, and so are the others.
@@ -111,5 +110,5 @@ spread_in_bounds h e = record { least = h.least; few = h.few; small = omega (ari
 
 -- ---- limits
 
-pub limit_bound : (limit : Limit) {z : Thousandths} → limit ≡ At z → out_of_range limit ≡ false → nat_abs z.0 ≤ 500000
+pub limit_bound : (limit : Limit) {z : Thousandths} → limit ≡ Some z → out_of_range limit ≡ false → nat_abs z.0 ≤ 500000
 limit_bound limit {z} e h = in_range_bound z.0 (not-false (in_range z.0) (sym (ap out_of_range e) ∙ h))

@@ -7,21 +7,18 @@ use Prim.Native.Nat.{ℕ}
 use native.Mathlib.Omega.{arith}
 use lib.IntN.{ℤ, pos}
 use lib.ListN.{length, drop}
+use Rattle.std.specs.Prelude.{Option, Some, None, Ok, Err}
 use Rattle.rules.specs.declared.Percentages.{Percentages}
 use Rattle.rules.specs.declared.Sheet.{Sheet}
 use Rattle.rules.specs.declared.Difference.{Difference}
-use Rattle.rules.specs.declared.Finding.{Finding}
-use Rattle.rules.specs.declared.CheckAnswer.{CheckAnswer}
-use Rattle.rules.specs.declared.ListAnswer.{ListAnswer}
 use Rattle.rules.specs.declared.host.HostChecked.{HostChecked}
 use Rattle.rules.specs.declared.Refusal.{Refusal}
 use Rattle.rules.specs.declared.Refusal.TheVariants.{Number}
-use Rattle.rules.specs.Said.{Said, refused, answers}
+use Rattle.rules.specs.Said.{Said}
 use Rattle.rules.specs.Lot.{Lot}
 use Rattle.rules.specs.Table.{Table}
 use Rattle.rules.specs.Sheet.{differences, first_of, difference_numbers}
 use Rattle.rules.specs.Refusals.{sheet_case}
-use Rattle.rules.specs.Answers.{check_said, list_said}
 use Rattle.rules.specs.Entries.{evaluation_says, written}
 use Rattle.rules.specs.Check.{ours_says, check_says, compare_says, after_compare}
 use Rattle.rules.specs.HostSheet.{host_checked}
@@ -43,61 +40,61 @@ module _ (table : Table) (vma voids density : Lot) (price quantity : ℤ) where
   ours_said = ours_says table vma voids density price quantity
 
   module _ (sheet : Sheet) where
-    abbrev finding_said : Said Finding
+    abbrev finding_said : Said (Option Difference)
     finding_said = check_says table vma voids density price quantity sheet
 
     -- ---- what is found
 
     -- A sheet that is taken gets the finding that document 02 asks for,
-    pub check_is_answered : {ours : Sheet} → Ours ours → SheetTaken sheet → (f : Finding) → Found sheet ours f → finding_said ≡ answers f
+    pub check_is_answered : {ours : Sheet} → Ours ours → SheetTaken sheet → (f : Option Difference) → Found sheet ours f → finding_said ≡ Ok f
     check_is_answered {ours} h taken f found =
         sheet_is_found table vma voids density price quantity sheet (ours_is_answered table vma voids density price quantity h) (taken_is_no_case sheet taken)
-        ∙ ap (λ (g : Finding). answers g) (found_determined sheet ours _ f (finding_is_found sheet ours) found)
+        ∙ ap (λ (g : Option Difference). Ok g) (found_determined sheet ours _ f (finding_is_found sheet ours) found)
 
     -- and whatever is answered is that finding.
     pub answer_is_found :
-        (f : Finding) → check_said (CheckAnswer.Answers f) ≡ finding_said →
+        (f : Option Difference) → (Ok f) ≡ finding_said →
         (ours : Sheet) × Ours ours × SheetTaken sheet × Found sheet ours f
     answer_is_found f e = by ours_said refl
       where
-        met : (ours : Sheet) → ours_said ≡ answers ours → (b : Bool) → (sheet_case sheet).applies ≡ b → (ours : Sheet) × Ours ours × SheetTaken sheet × Found sheet ours f
+        met : (ours : Sheet) → ours_said ≡ Ok ours → (b : Bool) → (sheet_case sheet).applies ≡ b → (ours : Sheet) × Ours ours × SheetTaken sheet × Found sheet ours f
         met ours g true k = absurd (unlike (unfit_is_refused table vma voids density price quantity sheet g k) (sym e))
         met ours g false k =
             let is : first_of (differences sheet ours) ≡ f = ap (value f) (sym (sheet_is_found table vma voids density price quantity sheet g k) ∙ sym e) in
             (ours, answered_is_ours table vma voids density price quantity g, sheet_is_taken sheet k, subst (Found sheet ours) is (finding_is_found sheet ours))
 
         by : (said : Said Sheet) → ours_said ≡ said → (ours : Sheet) × Ours ours × SheetTaken sheet × Found sheet ours f
-        by (refused r) g = absurd (unlike (ours_refused table vma voids density price quantity sheet g) (sym e))
-        by (answers ours) g = met ours g (sheet_case sheet).applies refl
+        by (Err r) g = absurd (unlike (ours_refused table vma voids density price quantity sheet g) (sym e))
+        by (Ok ours) g = met ours g (sheet_case sheet).applies refl
 
     -- So our own sheet is accepted, and no other is.
-    pub accepted_exactly_ours : (finding_said ≡ answers Finding.Accepted) ↔ Ours sheet
+    pub accepted_exactly_ours : (finding_said ≡ Ok None) ↔ Ours sheet
     accepted_exactly_ours = (
-      λ e. let h = answer_is_found Finding.Accepted (sym e) in subst Ours (sym h.3) h.1,
-      λ h. check_is_answered h (ours_is_taken table vma voids density price quantity h) Finding.Accepted refl,
+      λ e. let h = answer_is_found None (sym e) in subst Ours (sym h.3) h.1,
+      λ h. check_is_answered h (ours_is_taken table vma voids density price quantity h) None refl,
     )
 
     -- ---- refusals, in their order
 
-    pub first_lot_comes_first : {r : Refusal} → evaluation_says table vma ≡ refused r → finding_said ≡ refused r
+    pub first_lot_comes_first : {r : Refusal} → evaluation_says table vma ≡ Err r → finding_said ≡ Err r
     first_lot_comes_first e = ours_refused table vma voids density price quantity sheet (first_lot_refused table vma voids density price quantity (evaluation_refused table vma e))
 
-    module _ {p : Percentages} (a : evaluation_says table vma ≡ answers p) where
-      pub second_lot_comes_next : {r : Refusal} → evaluation_says table voids ≡ refused r → finding_said ≡ refused r
+    module _ {p : Percentages} (a : evaluation_says table vma ≡ Ok p) where
+      pub second_lot_comes_next : {r : Refusal} → evaluation_says table voids ≡ Err r → finding_said ≡ Err r
       second_lot_comes_next e = ours_refused table vma voids density price quantity sheet (second_lot_refused table vma voids density price quantity (evaluation_answered table vma a) (evaluation_refused table voids e))
 
-      module _ {q : Percentages} (b : evaluation_says table voids ≡ answers q) where
-        pub third_lot_comes_then : {r : Refusal} → evaluation_says table density ≡ refused r → finding_said ≡ refused r
+      module _ {q : Percentages} (b : evaluation_says table voids ≡ Ok q) where
+        pub third_lot_comes_then : {r : Refusal} → evaluation_says table density ≡ Err r → finding_said ≡ Err r
         third_lot_comes_then e = ours_refused table vma voids density price quantity sheet (third_lot_refused table vma voids density price quantity (evaluation_answered table vma a) (evaluation_answered table voids b) (evaluation_refused table density e))
 
         pub price_and_quantity_follow :
-            {s : Percentages} → evaluation_says table density ≡ answers s → ¬ (Between (pos 0) (pos 10000000) price × Between (pos 0) (pos 100000000) quantity) →
-            finding_said ≡ refused Number
+            {s : Percentages} → evaluation_says table density ≡ Ok s → ¬ (Between (pos 0) (pos 10000000) price × Between (pos 0) (pos 100000000) quantity) →
+            finding_said ≡ Err Number
         price_and_quantity_follow {s} c e =
             let number = not_payable_is_refused p.pwl.0 q.pwl.0 s.pwl.0 price quantity (λ h. e (h.price, h.quantity)) in
             ours_refused table vma voids density price quantity sheet (unpaid table vma voids density price quantity a b c number)
 
-    pub sheet_comes_last : {ours : Sheet} → Ours ours → ¬ SheetTaken sheet → finding_said ≡ refused Number
+    pub sheet_comes_last : {ours : Sheet} → Ours ours → ¬ SheetTaken sheet → finding_said ≡ Err Number
     sheet_comes_last h bad = unfit_is_refused table vma voids density price quantity sheet (ours_is_answered table vma voids density price quantity h) (untaken_is_a_case sheet bad)
 
 -- ---- the check as a comparison with our own sheet
@@ -109,10 +106,10 @@ first_compared (d ∷ ds) out = (omega arith, refl, refl)
 
 -- What is found is what the comparison of the sheet with ours lists first, for any list that is not too short.
 pub check_is_a_comparison :
-    (table : Table) (vma voids density : Lot) (price quantity : ℤ) (sheet ours : Sheet) (f : Finding) (items : ℕ) (out after : List ℤ) →
+    (table : Table) (vma voids density : Lot) (price quantity : ℤ) (sheet ours : Sheet) (f : Option Difference) (items : ℕ) (out after : List ℤ) →
     IsOurs table vma voids density price quantity ours →
-    check_said (CheckAnswer.Answers f) ≡ check_says table vma voids density price quantity sheet →
-    list_said (ListAnswer.Answers items) ≡ compare_says sheet ours out → after ≡ after_compare sheet ours out →
+    (Ok f) ≡ check_says table vma voids density price quantity sheet →
+    (Ok items) ≡ compare_says sheet ours out → after ≡ after_compare sheet ours out →
     AsCompared f items after
 unfolding compare_says written
 check_is_a_comparison table vma voids density price quantity sheet ours f items out after h e g k =
@@ -133,13 +130,13 @@ pub given_accepted_exactly_ours :
 given_accepted_exactly_ours table vma voids density price quantity sheet r e =
     let exactly = accepted_exactly_ours table vma voids density price quantity sheet in (
       λ one. exactly.0 (by (check_says table vma voids density price quantity sheet) (sym (ap (λ (x : HostChecked). x.accepted) e) ∙ one)),
-      λ ours. ap (λ (x : HostChecked). x.accepted) e ∙ ap (λ (said : Said Finding). (host_checked said).accepted) (exactly.1 ours),
+      λ ours. ap (λ (x : HostChecked). x.accepted) e ∙ ap (λ (said : Said (Option Difference)). (host_checked said).accepted) (exactly.1 ours),
     )
   where
-    by : (said : Said Finding) → (host_checked said).accepted ≡ 1 → said ≡ answers Finding.Accepted
-    by (refused q) one = absurd (omega arith)
-    by (answers Finding.Accepted) one = refl
-    by (answers (Finding.Differs d)) one = absurd (omega arith)
+    by : (said : Said (Option Difference)) → (host_checked said).accepted ≡ 1 → said ≡ Ok None
+    by (Err q) one = absurd (omega arith)
+    by (Ok None) one = refl
+    by (Ok (Some d)) one = absurd (omega arith)
 
 -- And where C is given no refusal, its numbers are what is found.
 pub given_check_is_found :

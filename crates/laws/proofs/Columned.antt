@@ -3,11 +3,10 @@ use mathlib.Core.Path.{◌≡◌, sym, ap, ◌∙◌, subst, subst⁻¹}
 use mathlib.Core.List.{List, ◌∷◌, ◌++◌}
 use Prim.Native.Nat.{ℕ, ◌+◌, ◌≤◌}
 use lib.ListN.{length, drop}
-use Rattle.rules.specs.declared.Limit.{Limit}
+use Rattle.std.specs.Prelude.{Ok, Option}
+use Rattle.rules.specs.Units.{Limit}
 use Rattle.rules.specs.declared.Totals.{Totals}
 use Rattle.rules.specs.declared.Columned.{Columned}
-use Rattle.rules.specs.declared.ColumnAnswer.{ColumnAnswer}
-use Rattle.rules.specs.declared.store.Named.{Named}
 use Rattle.rules.specs.Said.{Said, Case}
 use Rattle.rules.specs.Lot.{Lot}
 use Rattle.rules.specs.Table.{Table, has_column, entries, column_in}
@@ -35,8 +34,8 @@ pub placed_percentages :
 placed_percentages rule {c = c} upper lower h = ap (λ (column : List ℕ). percentages_of rule column c.totals upper lower) (sym h.is)
 
 pub column_placed :
-    (s : List ℕ) (named : Named) {r : ColumnAnswer} {c : Columned} → NamedIn s named →
-    ColumnPlaced s named r → r ≡ ColumnAnswer.Answers c → ColumnFound (table_at named s) s c
+    (s : List ℕ) (named : Said (Option ℕ)) {r : Said Columned} {c : Columned} → NamedIn s named →
+    ColumnPlaced s named r → r ≡ Ok c → ColumnFound (table_at named s) s c
 column_placed s named k placed e =
     let h = subst (ColumnPlaced s named) e placed in
     record {
@@ -46,12 +45,12 @@ column_placed s named k placed e =
     }
 
 -- Where an edition is named in a store, what is found of it is an edition of that store,
-module _ (s : List ℕ) (k : ℕ) {named : Named} (e : named ≡ named_says k s) where
+module _ (s : List ℕ) (k : ℕ) {named : Said (Option ℕ)} (e : named ≡ named_says k s) where
   pub found_in_store : NamedIn s named
   found_in_store = subst⁻¹ (NamedIn s) e (named_in k s)
 
   pub found_table : table_at named s ≡ table_in s k
-  found_table = ap (λ (d : Named). table_at d s) e ∙ table_named k s
+  found_table = ap (λ (d : Said (Option ℕ)). table_at d s) e ∙ table_named k s
 
   -- a lot meets 11 by that store before all else, and 13 and 10 after it,
   pub columned_is_totalled :
@@ -60,10 +59,10 @@ module _ (s : List ℕ) (k : ℕ) {named : Named} (e : named ≡ named_says k s)
   columned_is_totalled meets lot f g =
       g
       ∙ ap (with_column_say named s) f
-      ∙ totalled_with_column named s meets lot
+      ∙ totalled_with_column named s found_in_store meets lot
       ∙ ap (λ (table : Table). totalled (λ l. store_case (table l.n) ∷ (meets l ++ column_meets (table l.n))) lot) found_table
 
   -- and its column is the one that the store has for its count.
-  pub column_is_found : {r : ColumnAnswer} {c : Columned} → ColumnPlaced s named r → r ≡ ColumnAnswer.Answers c → ColumnFound (table_in s k) s c
+  pub column_is_found : {r : Said Columned} {c : Columned} → ColumnPlaced s named r → r ≡ Ok c → ColumnFound (table_in s k) s c
   column_is_found {r} {c} placed f =
       subst (λ (table : Table). ColumnFound table s c) found_table (column_placed s named found_in_store placed f)

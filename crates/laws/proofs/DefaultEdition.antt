@@ -1,17 +1,22 @@
 -- Table 106-1 as an edition, under any number: it is accepted, its table is Table 106-1, and so is the table of a store that holds it.
 use mathlib.Core.Path.{◌≡◌, refl, sym, ap, ◌∙◌}
 use mathlib.Core.Bool.{Bool, true, false, cond, ◌&&◌, and-eq-true_iff}
-use mathlib.Core.List.{List, [], ◌∷◌, append-nil}
-use Prim.Native.Nat.{ℕ, ◌/◌, ◌%◌, ◌≤◌}
+use mathlib.Core.List.{List, [], ◌∷◌, ◌++◌, append-nil}
+use Prim.Native.Nat.{ℕ, ◌/◌, ◌%◌, ◌≤◌, ◌<◌}
 use native.Mathlib.Nat.{le_antisymm, div-one}
 use native.Mathlib.Omega.{arith}
-use borrow.Author.Tests.{le-leb, leb-true, eq-eqb}
+use borrow.Author.Tests.{lt-ltb, le-ltb, le-leb, leb-true, eq-eqb}
 use lib.Dec.{leb}
 use lib.ListN.{length, take, drop}
+use Rattle.std.specs.Prelude.{Ok, Err}
+use Rattle.rules.specs.declared.Refusal.TheVariants.{Room}
+use Rattle.rules.specs.Said.{ruled}
 use Rattle.rules.specs.Record.{spell, spelled, twos}
 use Rattle.rules.specs.Table.{Table, no_column, a_column, rows, table_106_1, entries, column_in}
 use Rattle.rules.specs.Edition.{number_field, column_size, column_place, column_of, accepted, table_of, in_twos, columns_from, edition_head_of, edition_of, edition_106_1}
 use Rattle.rules.specs.Store.{rising, most_editions, editions, is_store, stored, edition_in, table_in}
+use Rattle.rules.specs.Entries.{written}
+use Rattle.rules.specs.Editions.{default_says, after_default}
 use Rattle.laws.specs.Bytes.{Bytes}
 use Rattle.laws.proofs.Table.{table_106_1_found}
 use Rattle.laws.proofs.Tests.{this_or_later}
@@ -120,3 +125,21 @@ pub default_column :
     take (length bs) (drop (column_place 2 n) (edition_106_1 number)) ≡ bs
 default_column number n bs low high small size e =
     rw size (column_there number n low high ∙ sym (ap in_twos e) ∙ in_twos_column bs small size)
+
+-- ---- what is said where it is written
+
+-- Fewer bytes than it has are refused and stay as they were;
+pub short_bytes_are_refused : (number : ℕ) (out : List ℕ) → length out < 979 → (default_says number out ≡ Err Room) × (after_default number out ≡ out)
+unfolding default_says ruled written
+short_bytes_are_refused number out short =
+    let said : default_says number out ≡ Err Room = simp (default_size number, lt-ltb (length out) 979 short) in
+    (said, rw said)
+
+-- of any others the first are those of the edition then, and the rest stays.
+pub default_is_written :
+    (number : ℕ) (out : List ℕ) → 979 ≤ length out →
+    (default_says number out ≡ Ok 979) × (after_default number out ≡ edition_106_1 number ++ drop 979 out)
+unfolding default_says ruled written
+default_is_written number out room =
+    let said : default_says number out ≡ Ok 979 = simp (default_size number, le-ltb (length out) 979 room) in
+    (said, rw (said, default_size number))

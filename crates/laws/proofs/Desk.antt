@@ -4,9 +4,10 @@ use mathlib.Core.Path.{◌≡◌, refl, ap}
 use Prim.Native.Nat.{ℕ, ◌≤◌}
 use lib.Dec.{T, lit≤}
 use lib.IntN.{pos}
+use Rattle.std.specs.Prelude.{Ok}
 use Rattle.rules.specs.declared.Thousandths.{Thousandths}
 use Rattle.rules.specs.Units.{thousandths}
-use Rattle.rules.specs.Said.{Said, answers, ruled}
+use Rattle.rules.specs.Said.{Said, ruled}
 use Rattle.rules.specs.Table.{rows, table_106_1}
 use Rattle.rules.specs.Percent.{sum, squares, spread, upper_distance, lower_distance, index_squared, midpoint_squared, admits, largest, nearest, side, upper_side, lower_side}
 use Rattle.rules.specs.Deviation.{is_deviation, deviation}
@@ -17,8 +18,8 @@ use Rattle.laws.specs.Every.{Every, done, ◌then◌}
 use Rattle.laws.specs.Desk.{Holds, examples, corrected}
 use Rattle.laws.proofs.Deviation.{only_deviation_meets}
 
-found : (n v : ℕ) {s : ℕ} → 2 ≤ n → T (is_deviation n (pos v) s) → ◌≡◌ {A = Said Thousandths} (answers (thousandths (pos (deviation n (pos v))))) (answers (thousandths (pos s)))
-found n v {s} low t = ap (λ (m : ℕ). answers (thousandths (pos m))) (only_deviation_meets n v s low t)
+found : (n v : ℕ) {s : ℕ} → 2 ≤ n → T (is_deviation n (pos v) s) → ◌≡◌ {A = Said Thousandths} (Ok (thousandths (pos (deviation n (pos v))))) (Ok (thousandths (pos s)))
+found n v {s} low t = ap (λ (m : ℕ). Ok (thousandths (pos m))) (only_deviation_meets n v s low t)
 
 pub desk : Every (Holds table_106_1) examples
 unfolding ruled rows table_106_1 sum squares spread upper_distance lower_distance index_squared midpoint_squared admits largest nearest side upper_side lower_side any_out readings_meet evaluation_meets evaluated evaluation_says deviation_says percentages_of

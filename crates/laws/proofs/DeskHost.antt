@@ -5,16 +5,15 @@ use mathlib.Core.List.{List, [], ◌∷◌}
 use Prim.Native.Nat.{ℕ, suc}
 use lib.Dec.{eqb-suc-zero}
 use lib.IntN.{ℤ, pos}
-use Rattle.rules.specs.declared.Limit.TheVariants.{Absent, At}
+use Rattle.std.specs.Prelude.{Some, None, Ok, Err}
 use Rattle.rules.specs.declared.Verdict.TheVariants.{Accepted, Rejected}
-use Rattle.rules.specs.declared.Finding.{Finding}
 use Rattle.rules.specs.declared.Refusal.{Refusal}
 use Rattle.rules.specs.declared.Refusal.TheVariants.{Size, Version, Flags, Count, Range, Unlimited, Crossed, Room, Number, NoColumn, Unsound, NotRising, NoEdition}
 use Rattle.rules.specs.declared.host.HostRefusal.{HostRefusal}
 use Rattle.rules.specs.declared.host.HostLot.{HostLot}
 use Rattle.rules.specs.declared.host.HostPair.{HostPair}
 use Rattle.rules.specs.Units.{thousandths, hundredths, composite_of, cents}
-use Rattle.rules.specs.Said.{Said, refused, answers}
+use Rattle.rules.specs.Said.{Said}
 use Rattle.rules.specs.Lot.{Lot, lot_of, lot_in}
 use Rattle.rules.specs.Mixture.{density_pairs, mixture_limits}
 use Rattle.rules.specs.Refusals.{number_of}
@@ -29,7 +28,7 @@ use Rattle.laws.specs.Desk.{at, asked}
 pub absent_is_unread : (y z : ℤ) → lent_limit y 0 ≡ lent_limit z 0
 absent_is_unread y z = refl
 
-pub other_is_present : (z : ℤ) (presence : ℕ) → lent_limit z (suc presence) ≡ At (thousandths z)
+pub other_is_present : (z : ℤ) (presence : ℕ) → lent_limit z (suc presence) ≡ Some (thousandths z)
 other_is_present z presence = rw (eqb-suc-zero presence)
 
 -- A lot as a host holds it: all its places, an upper limit, and a lower one's number and presence.
@@ -58,7 +57,7 @@ numbers count lower presence =
       seventeenth = pos 17;
     }
 
-pub lot_is_given : lot_in (held_lot (numbers 4 (pos 7) 0)) ≡ lot_of (at 21) Absent (pos 1 ∷ pos 2 ∷ pos 3 ∷ pos 4 ∷ [])
+pub lot_is_given : lot_in (held_lot (numbers 4 (pos 7) 0)) ≡ lot_of (at 21) None (pos 1 ∷ pos 2 ∷ pos 3 ∷ pos 4 ∷ [])
 lot_is_given = refl
 
 pub lot_is_handed_back : host_lot (held_lot (numbers 17 (pos 7) 2)) ≡ numbers 17 (pos 7) 1
@@ -98,33 +97,33 @@ nothing =
       seventeenth = pos 0;
     }
 
-pub refused_read_is_nothing : (bs : List ℕ) (r : Refusal) → read_says bs ≡ refused r → host_read (read_leaves bs) ≡ record { refusal = numbered (number_of r); lot = nothing }
+pub refused_read_is_nothing : (bs : List ℕ) (r : Refusal) → read_says bs ≡ Err r → host_read (read_leaves bs) ≡ record { refusal = numbered (number_of r); lot = nothing }
 unfolding host_lot held
 refused_read_is_nothing bs r e = ap (λ (said : Said Lot). host_read (beside said)) e
 
 -- Each of the other answers, once refused and once with values.
 pub mean_is_given :
-    (host_mean (refused Count) ≡ record { refusal = numbered 4; total = pos 0; count = 0 }) ×
-    (host_mean (answers (record { total = thousandths (pos 41600); count = 10 })) ≡ record { refusal = numbered 0; total = pos 41600; count = 10 })
+    (host_mean (Err Count) ≡ record { refusal = numbered 4; total = pos 0; count = 0 }) ×
+    (host_mean (Ok (record { total = thousandths (pos 41600); count = 10 })) ≡ record { refusal = numbered 0; total = pos 41600; count = 10 })
 mean_is_given = (refl, refl)
 
 pub deviation_is_given :
-    (host_deviation (refused Range) ≡ record { refusal = numbered 5; deviation = pos 0 }) ×
-    (host_deviation (answers (thousandths (pos 825))) ≡ record { refusal = numbered 0; deviation = pos 825 })
+    (host_deviation (Err Range) ≡ record { refusal = numbered 5; deviation = pos 0 }) ×
+    (host_deviation (Ok (thousandths (pos 825))) ≡ record { refusal = numbered 0; deviation = pos 825 })
 deviation_is_given = (refl, refl)
 
 -- The counts are made to differ, so that an exchange is seen.
 pub percentages_are_given :
-    (host_percentages (refused Unlimited) ≡ record { refusal = numbered 6; upper = pos 0; lower = pos 0; pwl = pos 0; tried = record { upper = 0; lower = 0 } }) ×
-    (host_percentages (answers (record { upper = hundredths (pos 9337); lower = hundredths (pos 9791); pwl = hundredths (pos 9128); tried = record { upper = 6; lower = 5 } })) ≡
+    (host_percentages (Err Unlimited) ≡ record { refusal = numbered 6; upper = pos 0; lower = pos 0; pwl = pos 0; tried = record { upper = 0; lower = 0 } }) ×
+    (host_percentages (Ok (record { upper = hundredths (pos 9337); lower = hundredths (pos 9791); pwl = hundredths (pos 9128); tried = record { upper = 6; lower = 5 } })) ≡
     record { refusal = numbered 0; upper = pos 9337; lower = pos 9791; pwl = pos 9128; tried = record { upper = 6; lower = 5 } })
 percentages_are_given = (refl, refl)
 
 -- Accepted is told from entry 0 differing, and neither is given beside a refusal.
 pub checked_is_given :
-    (host_checked (refused NoColumn) ≡ record { refusal = numbered 10; accepted = 0; entry = 0; sheet = pos 0; ours = pos 0 }) ×
-    (host_checked (answers Finding.Accepted) ≡ record { refusal = numbered 0; accepted = 1; entry = 0; sheet = pos 0; ours = pos 0 }) ×
-    (host_checked (answers (Finding.Differs (record { entry = 0; first = pos 9752; second = pos 9751 }))) ≡
+    (host_checked (Err NoColumn) ≡ record { refusal = numbered 10; accepted = 0; entry = 0; sheet = pos 0; ours = pos 0 }) ×
+    (host_checked (Ok None) ≡ record { refusal = numbered 0; accepted = 1; entry = 0; sheet = pos 0; ours = pos 0 }) ×
+    (host_checked (Ok (Some (record { entry = 0; first = pos 9752; second = pos 9751 }))) ≡
     record { refusal = numbered 0; accepted = 0; entry = 0; sheet = pos 9752; ours = pos 9751 })
 checked_is_given = (refl, refl, refl)
 
@@ -137,8 +136,8 @@ sheet_is_held = refl
 
 -- A verdict's number is 0 accepted, 1 rejected.
 pub payment_is_given :
-    (host_payment (refused Number) ≡ record { refusal = numbered 9; composite = pos 0; vma = 0; voids = 0; density = 0; lot = 0; pay = pos 0 }) ×
-    (host_payment (answers (record { composite = composite_of (pos 998); vma = Accepted; voids = Rejected; density = Accepted; lot = Rejected; pay = cents (pos 63872000) })) ≡
+    (host_payment (Err Number) ≡ record { refusal = numbered 9; composite = pos 0; vma = 0; voids = 0; density = 0; lot = 0; pay = pos 0 }) ×
+    (host_payment (Ok (record { composite = composite_of (pos 998); vma = Accepted; voids = Rejected; density = Accepted; lot = Rejected; pay = cents (pos 63872000) })) ≡
     record { refusal = numbered 0; composite = pos 998; vma = 0; voids = 1; density = 0; lot = 1; pay = pos 63872000 })
 payment_is_given = (refl, refl)
 
@@ -146,35 +145,35 @@ abbrev pair : ℕ → ℕ → HostPair
 pair lower upper = record { lower = pos lower; upper = pos upper }
 
 pub mixture_limits_are_given :
-    (host_mixture_limits (refused Range) ≡ record { refusal = numbered 5; vma = pair 0 0; voids = pair 0 0; density = pair 0 0 }) ×
-    (host_mixture_limits (answers (mixture_limits (pos 3) (pos 13000) (pos 4000))) ≡
+    (host_mixture_limits (Err Range) ≡ record { refusal = numbered 5; vma = pair 0 0; voids = pair 0 0; density = pair 0 0 }) ×
+    (host_mixture_limits (Ok (mixture_limits (pos 3) (pos 13000) (pos 4000))) ≡
     record { refusal = numbered 0; vma = pair 12300 16000; voids = pair 2650 5350; density = pair 91500 97000 })
 unfolding mixture_limits density_pairs
 mixture_limits_are_given = (refl, refl)
 
-pub written_is_given : (host_written (refused Room) ≡ record { refusal = numbered 8; size = 0 }) × (host_written (answers 29) ≡ record { refusal = numbered 0; size = 29 })
+pub written_is_given : (host_written (Err Room) ≡ record { refusal = numbered 8; size = 0 }) × (host_written (Ok 29) ≡ record { refusal = numbered 0; size = 29 })
 written_is_given = (refl, refl)
 
-pub listed_is_given : (host_listed (refused Number) ≡ record { refusal = numbered 9; items = 0 }) × (host_listed (answers 409) ≡ record { refusal = numbered 0; items = 409 })
+pub listed_is_given : (host_listed (Err Number) ≡ record { refusal = numbered 9; items = 0 }) × (host_listed (Ok 409) ≡ record { refusal = numbered 0; items = 409 })
 listed_is_given = (refl, refl)
 
-pub place_is_given : (host_place (refused NoEdition) ≡ record { refusal = numbered 13; start = 0 }) × (host_place (answers 979) ≡ record { refusal = numbered 0; start = 979 })
+pub place_is_given : (host_place (Err NoEdition) ≡ record { refusal = numbered 13; start = 0 }) × (host_place (Ok 979) ≡ record { refusal = numbered 0; start = 979 })
 place_is_given = (refl, refl)
 
 -- The numbers of refusal, 0 for none.
 pub refusal_is_asked :
-    (asked {A = ℕ} (refused Size) ≡ 1) ×
-    (asked {A = ℕ} (refused Version) ≡ 2) ×
-    (asked {A = ℕ} (refused Flags) ≡ 3) ×
-    (asked {A = ℕ} (refused Count) ≡ 4) ×
-    (asked {A = ℕ} (refused Range) ≡ 5) ×
-    (asked {A = ℕ} (refused Unlimited) ≡ 6) ×
-    (asked {A = ℕ} (refused Crossed) ≡ 7) ×
-    (asked {A = ℕ} (refused Room) ≡ 8) ×
-    (asked {A = ℕ} (refused Number) ≡ 9) ×
-    (asked {A = ℕ} (refused NoColumn) ≡ 10) ×
-    (asked {A = ℕ} (refused Unsound) ≡ 11) ×
-    (asked {A = ℕ} (refused NotRising) ≡ 12) ×
-    (asked {A = ℕ} (refused NoEdition) ≡ 13) ×
-    (asked {A = ℕ} (answers 7) ≡ 0)
+    (asked {A = ℕ} (Err Size) ≡ 1) ×
+    (asked {A = ℕ} (Err Version) ≡ 2) ×
+    (asked {A = ℕ} (Err Flags) ≡ 3) ×
+    (asked {A = ℕ} (Err Count) ≡ 4) ×
+    (asked {A = ℕ} (Err Range) ≡ 5) ×
+    (asked {A = ℕ} (Err Unlimited) ≡ 6) ×
+    (asked {A = ℕ} (Err Crossed) ≡ 7) ×
+    (asked {A = ℕ} (Err Room) ≡ 8) ×
+    (asked {A = ℕ} (Err Number) ≡ 9) ×
+    (asked {A = ℕ} (Err NoColumn) ≡ 10) ×
+    (asked {A = ℕ} (Err Unsound) ≡ 11) ×
+    (asked {A = ℕ} (Err NotRising) ≡ 12) ×
+    (asked {A = ℕ} (Err NoEdition) ≡ 13) ×
+    (asked {A = ℕ} (Ok 7) ≡ 0)
 refusal_is_asked = (refl, refl, refl, refl, refl, refl, refl, refl, refl, refl, refl, refl, refl, refl)

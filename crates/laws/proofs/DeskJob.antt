@@ -5,10 +5,10 @@ use mathlib.Core.List.{List, [], ◌∷◌}
 use Prim.Native.Nat.{ℕ}
 use lib.IntN.{pos}
 use lib.ListN.{length, get_or, replicate}
-use Rattle.rules.specs.declared.Limit.TheVariants.{Absent}
+use Rattle.std.specs.Prelude.{None, Ok, Err}
 use Rattle.rules.specs.declared.Refusal.TheVariants.{NoColumn, Count, Number, Room}
 use Rattle.rules.specs.Units.{thousandths}
-use Rattle.rules.specs.Said.{refused, answers, ruled}
+use Rattle.rules.specs.Said.{ruled}
 use Rattle.rules.specs.Lot.{Lot, lot_of}
 use Rattle.rules.specs.Table.{table_106_1}
 use Rattle.rules.specs.Job.{with_leftover, lot_sizes, in_order, cut, item_numbers}
@@ -60,21 +60,21 @@ longest_job_is_cut = (refl, refl, refl, refl, refl)
 
 -- The list is filled from its start and keeps its rest; refused, it keeps every number. 9 comes before 8: the last list is too short as well.
 pub lists_are_filled :
-    (cut_says 18 (replicate 5 7) ≡ answers 2) × (after_cut 18 (replicate 5 7) ≡ 0 ∷ 10 ∷ 10 ∷ 8 ∷ 7 ∷ []) ×
-    (cut_says 18 (replicate 3 7) ≡ refused Room) × (after_cut 18 (replicate 3 7) ≡ replicate 3 7) ×
-    (cut_says 0 [] ≡ answers 0) × (cut_says 1 [] ≡ refused Room) ×
-    (cut_says 4097 [] ≡ refused Number) × (after_cut 4097 (replicate 2 7) ≡ replicate 2 7)
+    (cut_says 18 (replicate 5 7) ≡ Ok 2) × (after_cut 18 (replicate 5 7) ≡ 0 ∷ 10 ∷ 10 ∷ 8 ∷ 7 ∷ []) ×
+    (cut_says 18 (replicate 3 7) ≡ Err Room) × (after_cut 18 (replicate 3 7) ≡ replicate 3 7) ×
+    (cut_says 0 [] ≡ Ok 0) × (cut_says 1 [] ≡ Err Room) ×
+    (cut_says 4097 [] ≡ Err Number) × (after_cut 4097 (replicate 2 7) ≡ replicate 2 7)
 unfolding cut_says cut_meets written ruled cut lot_sizes with_leftover in_order item_numbers
 lists_are_filled = (refl, refl, refl, refl, refl, refl, refl, refl)
 
 -- Seventeen equal readings, so that V is 0, with one limit.
 abbrev seventeen : Lot
-seventeen = lot_of (at 4000) Absent (replicate 17 (pos 4000))
+seventeen = lot_of (at 4000) None (replicate 17 (pos 4000))
 
 pub seventeen_are_averaged_and_written :
-    (mean_says seventeen.readings ≡ answers (record { total = thousandths (pos 68000); count = 17 })) ×
-    (evaluation_says table_106_1 seventeen ≡ refused NoColumn) ×
-    (write_says seventeen (replicate 81 0) ≡ answers 81) ×
-    (mean_says (replicate 18 (pos 4000)) ≡ refused Count)
+    (mean_says seventeen.readings ≡ Ok (record { total = thousandths (pos 68000); count = 17 })) ×
+    (evaluation_says table_106_1 seventeen ≡ Err NoColumn) ×
+    (write_says seventeen (replicate 81 0) ≡ Ok 81) ×
+    (mean_says (replicate 18 (pos 4000)) ≡ Err Count)
 unfolding mean_says readings_meet evaluation_says evaluated evaluation_meets table_106_1 write_says write_meets ruled record_of head_of spell in_fours any_out sum
 seventeen_are_averaged_and_written = (refl, refl, refl, refl)

@@ -4,9 +4,9 @@ use mathlib.Core.List.{List, [], ◌∷◌, ◌++◌}
 use Prim.Native.Nat.{ℕ}
 use lib.IntN.{pos, neg_ℤ}
 use lib.ListN.{take, set, replicate}
-use Rattle.rules.specs.declared.Limit.TheVariants.{Absent, At}
+use Rattle.std.specs.Prelude.{Some, None, Ok}
 use Rattle.rules.specs.Units.{thousandths}
-use Rattle.rules.specs.Said.{answers, ruled}
+use Rattle.rules.specs.Said.{ruled}
 use Rattle.rules.specs.Lot.{Lot, lot_of}
 use Rattle.rules.specs.Record.{spelled, spell, fours, in_fours, lot_of_record, head_of, record_of}
 use Rattle.rules.specs.Refusals.{any_out}
@@ -15,7 +15,7 @@ use Rattle.rules.specs.Entries.{read_says, write_says}
 use Rattle.laws.specs.Desk.{at, asked}
 
 abbrev d5 : Lot
-d5 = lot_of (at 21) Absent (pos 0 ∷ pos 0 ∷ pos 0 ∷ pos 80 ∷ [])
+d5 = lot_of (at 21) None (pos 0 ∷ pos 0 ∷ pos 0 ∷ pos 80 ∷ [])
 
 abbrev printed : List ℕ
 printed =
@@ -34,13 +34,13 @@ pub d5_is_written : record_of d5 ≡ printed
 unfolding record_of head_of spell in_fours
 d5_is_written = refl
 
-pub d5_is_read : read_says printed ≡ answers d5
+pub d5_is_read : read_says printed ≡ Ok d5
 unfolding read_says read_meets ruled lot_of_record spelled fours any_out
 d5_is_read = refl
 
 -- Two's complement: −1 is FF FF FF FF, and −500,000 is FF F8 5E E0.
 abbrev negative : Lot
-negative = lot_of Absent (At (thousandths (neg_ℤ (pos 500000)))) (neg_ℤ (pos 1) ∷ pos 1 ∷ [])
+negative = lot_of None (Some (thousandths (neg_ℤ (pos 500000)))) (neg_ℤ (pos 1) ∷ pos 1 ∷ [])
 
 pub negative_is_written :
     record_of negative ≡ 0 ∷ 19 ∷ 1 ∷ 2 ∷ 0 ∷ 0 ∷ 0 ∷ 0 ∷ 255 ∷ 248 ∷ 94 ∷ 224 ∷ 2 ∷ 255 ∷ 255 ∷ 255 ∷ 255 ∷ 0 ∷ 0 ∷ 0 ∷ 1 ∷ []
@@ -61,6 +61,6 @@ pub each_refusal :
     (asked (read_says (set (set printed 3 0) 7 0)) ≡ 6) ×
     (asked (read_says (set (set printed 3 3) 11 22)) ≡ 7) ×
     (asked (write_says d5 (replicate 28 0)) ≡ 8) ×
-    (asked (write_says (lot_of (at 21) Absent (pos 0 ∷ [])) (replicate 28 0)) ≡ 4)
+    (asked (write_says (lot_of (at 21) None (pos 0 ∷ [])) (replicate 28 0)) ≡ 4)
 unfolding read_says read_meets write_says write_meets ruled lot_of_record record_of head_of spelled spell fours in_fours any_out
 each_refusal = (refl, refl, refl, refl, refl, refl, refl, refl, refl, refl, refl, refl)

@@ -4,10 +4,10 @@ use mathlib.Core.List.{[], ◌∷◌}
 use lib.IntN.{pos}
 use lib.ListN.{replicate}
 use lib.Ieee.{binary64, of_int, div, of_bits}
-use Rattle.rules.specs.declared.Limit.TheVariants.{Absent}
+use Rattle.std.specs.Prelude.{None, Ok, Err}
 use Rattle.rules.specs.declared.Row.{Row}
 use Rattle.rules.specs.declared.Refusal.TheVariants.{Count}
-use Rattle.rules.specs.Said.{refused, answers, ruled}
+use Rattle.rules.specs.Said.{ruled}
 use Rattle.rules.specs.Table.{rows, table_106_1}
 use Rattle.rules.specs.Percent.{sum, squares, spread, upper_distance, lower_distance, index_squared, midpoint_squared, admits, largest, nearest, side, upper_side, lower_side}
 use Rattle.rules.specs.Deviation.{deviation, first_from}
@@ -32,35 +32,35 @@ voids_row = refl
 
 -- Each double of a refused lot is 0.
 pub refused_row_is_zero :
-    (mean_asked (refused Count) ≡ of_bits binary64 0) × (deviation_asked (refused Count) ≡ of_bits binary64 0) × (pwl_asked (refused Count) ≡ of_bits binary64 0)
+    (mean_asked (Err Count) ≡ of_bits binary64 0) × (deviation_asked (Err Count) ≡ of_bits binary64 0) × (pwl_asked (Err Count) ≡ of_bits binary64 0)
 unfolding of_bits
 refused_row_is_zero = (refl, refl, refl)
 
 -- The row in one answer: any row, and that of a refused lot.
 pub row_is_given :
-    ((row : Row) → host_row (answers row) ≡ record { refusal = record { number = 0 }; mean = row.mean; deviation = row.deviation; pwl = row.pwl }) ×
-    (host_row (refused Count) ≡ record { refusal = record { number = 4 }; mean = of_bits binary64 0; deviation = of_bits binary64 0; pwl = of_bits binary64 0 })
+    ((row : Row) → host_row (Ok row) ≡ record { refusal = record { number = 0 }; mean = row.mean; deviation = row.deviation; pwl = row.pwl }) ×
+    (host_row (Err Count) ≡ record { refusal = record { number = 4 }; mean = of_bits binary64 0; deviation = of_bits binary64 0; pwl = of_bits binary64 0 })
 unfolding of_bits
 row_is_given = (λ row. refl, refl)
 
 -- D9 as bytes: of 0 and 1, with an upper limit of 1.
-pub d9_row : row_says table_106_1 (at 1) Absent (in_fours (pos 0 ∷ pos 1 ∷ [])) ≡ answers (row_of (pos 1) 2 (pos 1) (pos 7349))
+pub d9_row : row_says table_106_1 (at 1) None (in_fours (pos 0 ∷ pos 1 ∷ [])) ≡ Ok (row_of (pos 1) 2 (pos 1) (pos 7349))
 unfolding row_says row_meets lent_lot ruled in_fours spell spelled fours any_out sum squares spread upper_distance lower_distance index_squared midpoint_squared admits largest nearest side upper_side lower_side rows table_106_1 percentages_of deviation first_from
 d9_row = refl
 
 -- A size that is not 4n for an allowed n is refusal 4, before any other. 4 · 11 and 4 · 17 bytes have a size that is allowed, and no column: that is
 -- refusal 10, after all others, for equal readings too.
 pub sizes_are_refused :
-    (asked (row_says table_106_1 Absent Absent []) ≡ 4) ×
-    (asked (row_says table_106_1 Absent Absent (replicate 4 0)) ≡ 4) ×
-    (asked (row_says table_106_1 Absent Absent (replicate 7 0)) ≡ 4) ×
-    (asked (row_says table_106_1 Absent Absent (replicate 9 0)) ≡ 4) ×
-    (asked (row_says table_106_1 Absent Absent (replicate 72 0)) ≡ 4) ×
-    (asked (row_says table_106_1 Absent Absent (replicate 8 0)) ≡ 6) ×
-    (asked (row_says table_106_1 Absent Absent (replicate 40 0)) ≡ 6) ×
-    (asked (row_says table_106_1 Absent Absent (replicate 68 0)) ≡ 6) ×
+    (asked (row_says table_106_1 None None []) ≡ 4) ×
+    (asked (row_says table_106_1 None None (replicate 4 0)) ≡ 4) ×
+    (asked (row_says table_106_1 None None (replicate 7 0)) ≡ 4) ×
+    (asked (row_says table_106_1 None None (replicate 9 0)) ≡ 4) ×
+    (asked (row_says table_106_1 None None (replicate 72 0)) ≡ 4) ×
+    (asked (row_says table_106_1 None None (replicate 8 0)) ≡ 6) ×
+    (asked (row_says table_106_1 None None (replicate 40 0)) ≡ 6) ×
+    (asked (row_says table_106_1 None None (replicate 68 0)) ≡ 6) ×
     (asked (row_says table_106_1 (at 0) (at 1) (replicate 68 0)) ≡ 7) ×
-    (asked (row_says table_106_1 (at 0) Absent (replicate 44 0)) ≡ 10) ×
-    (asked (row_says table_106_1 (at 0) Absent (replicate 68 0)) ≡ 10)
+    (asked (row_says table_106_1 (at 0) None (replicate 44 0)) ≡ 10) ×
+    (asked (row_says table_106_1 (at 0) None (replicate 68 0)) ≡ 10)
 unfolding row_says row_meets lent_lot ruled fours spelled any_out table_106_1
 sizes_are_refused = (refl, refl, refl, refl, refl, refl, refl, refl, refl, refl, refl)

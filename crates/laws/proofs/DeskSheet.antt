@@ -6,12 +6,11 @@ use mathlib.Core.List.{List, [], ◌∷◌}
 use Prim.Native.Nat.{ℕ, ◌*◌}
 use lib.IntN.{ℤ, pos, neg_ℤ}
 use lib.ListN.{replicate}
-use Rattle.rules.specs.declared.Limit.TheVariants.{Absent}
+use Rattle.std.specs.Prelude.{Some, None, Ok, Err}
 use Rattle.rules.specs.declared.Sheet.{Sheet}
-use Rattle.rules.specs.declared.Finding.{Finding}
 use Rattle.rules.specs.declared.Refusal.TheVariants.{Count, Unlimited, NoColumn, Number, Room}
 use Rattle.rules.specs.Units.{hundredths, composite_of, cents}
-use Rattle.rules.specs.Said.{refused, answers, ruled}
+use Rattle.rules.specs.Said.{ruled}
 use Rattle.rules.specs.Lot.{Lot, lot_of}
 use Rattle.rules.specs.Table.{rows, table_106_1}
 use Rattle.rules.specs.Percent.{sum, squares, spread, upper_distance, lower_distance, index_squared, midpoint_squared, admits, largest, nearest, side, upper_side, lower_side}
@@ -54,7 +53,7 @@ density = lot_of (at 97000) (at 91500) (tenths (915 ∷ 930 ∷ 929 ∷ 935 ∷ 
 abbrev worked : Sheet
 worked = sheet (pos 9751) (pos 9128) (pos 9256) (pos 998) (pos 0) (pos 63872000)
 
-pub worked_sheet_is_ours : ours_says table_106_1 vma voids density (pos 8000) (pos 800000) ≡ answers worked
+pub worked_sheet_is_ours : ours_says table_106_1 vma voids density (pos 8000) (pos 800000) ≡ Ok worked
 unfolding ours_says our_meets our_sheet pwl_of payment factor weighted composite final_pay pay_meets ruled rows table_106_1 sum squares spread upper_distance lower_distance index_squared midpoint_squared admits largest nearest side upper_side lower_side any_out evaluation_meets percentages_of
 worked_sheet_is_ours = refl
 
@@ -66,7 +65,7 @@ pub record Wrong : Type 0 where
   pub ours : ℤ
 
 abbrev Named : Wrong → Type 0
-Named w = first_of (differences w.given worked) ≡ Finding.Differs (record { entry = w.entry; first = w.theirs; second = w.ours })
+Named w = first_of (differences w.given worked) ≡ Some (record { entry = w.entry; first = w.theirs; second = w.ours })
 
 -- wrong by one unit in each entry; in two; in all; and with a PWL above 100 percent, which is no refusal
 abbrev wrong : List Wrong
@@ -82,7 +81,7 @@ wrong =
     record { given = sheet (pos 10001) (pos 9128) (pos 9256) (pos 998) (pos 0) (pos 63872000); entry = 0; theirs = pos 10001; ours = pos 9751 } ∷
     []
 
-pub wrong_sheets_are_named : (first_of (differences worked worked) ≡ Finding.Accepted) × Every Named wrong
+pub wrong_sheets_are_named : (first_of (differences worked worked) ≡ None) × Every Named wrong
 unfolding first_of differences differing sheet_numbers
 wrong_sheets_are_named =
     (refl, refl then refl then refl then refl then refl then refl then refl then refl then refl then done)
@@ -91,16 +90,16 @@ wrong_sheets_are_named =
 
 -- two equal readings at their limit, which have 100 percent, and past it, which have none
 abbrev good : Lot
-good = lot_of (at 4000) Absent (replicate 2 (pos 4000))
+good = lot_of (at 4000) None (replicate 2 (pos 4000))
 
 abbrev past : Lot
-past = lot_of (at 3999) Absent (replicate 2 (pos 4000))
+past = lot_of (at 3999) None (replicate 2 (pos 4000))
 
 -- A lot is rejected for any of the three: factors of 103 and 53 percent, at a dollar a ton and one ton.
 pub rejected_sheets_are_ours :
-    (ours_says table_106_1 past good good (pos 100) (pos 100) ≡ answers (sheet (pos 0) (pos 10000) (pos 10000) (pos 880) (pos 1) (pos 88))) ×
-    (ours_says table_106_1 good past good (pos 100) (pos 100) ≡ answers (sheet (pos 10000) (pos 0) (pos 10000) (pos 880) (pos 1) (pos 88))) ×
-    (ours_says table_106_1 good good past (pos 100) (pos 100) ≡ answers (sheet (pos 10000) (pos 10000) (pos 0) (pos 830) (pos 1) (pos 83)))
+    (ours_says table_106_1 past good good (pos 100) (pos 100) ≡ Ok (sheet (pos 0) (pos 10000) (pos 10000) (pos 880) (pos 1) (pos 88))) ×
+    (ours_says table_106_1 good past good (pos 100) (pos 100) ≡ Ok (sheet (pos 10000) (pos 0) (pos 10000) (pos 880) (pos 1) (pos 88))) ×
+    (ours_says table_106_1 good good past (pos 100) (pos 100) ≡ Ok (sheet (pos 10000) (pos 10000) (pos 0) (pos 830) (pos 1) (pos 83)))
 unfolding ours_says our_meets our_sheet pwl_of payment factor weighted composite final_pay pay_meets ruled table_106_1 sum squares spread upper_distance lower_distance side upper_side lower_side any_out evaluation_meets percentages_of
 rejected_sheets_are_ours = (refl, refl, refl)
 
@@ -127,13 +126,13 @@ sheets_are_taken = (refl, refl, refl, refl, refl, refl, refl, refl, refl, refl)
 
 -- one reading; no limit; eleven readings
 abbrev one : Lot
-one = lot_of (at 4000) Absent (pos 4000 ∷ [])
+one = lot_of (at 4000) None (pos 4000 ∷ [])
 
 abbrev unlimited : Lot
-unlimited = lot_of Absent Absent (replicate 2 (pos 4000))
+unlimited = lot_of None None (replicate 2 (pos 4000))
 
 abbrev eleven : Lot
-eleven = lot_of (at 4000) Absent (replicate 11 (pos 4000))
+eleven = lot_of (at 4000) None (replicate 11 (pos 4000))
 
 abbrev full : Sheet
 full = sheet (pos 10000) (pos 10000) (pos 10000) (pos 1030) (pos 0) (pos 103)
@@ -143,10 +142,10 @@ bad = sheet (neg_ℤ (pos 1)) (pos 0) (pos 0) (pos 0) (pos 0) (pos 0)
 
 -- An earlier lot's refusal comes before a later one's, whatever the numbers, and both before 9.
 pub lots_come_in_order :
-    (check_says table_106_1 eleven unlimited one (pos 100) (pos 100) full ≡ refused NoColumn) × (check_says table_106_1 unlimited one one (pos 100) (pos 100) full ≡ refused Unlimited) ×
-    (check_says table_106_1 good eleven one (pos 100) (pos 100) full ≡ refused NoColumn) × (check_says table_106_1 good good one (neg_ℤ (pos 1)) (pos 100) bad ≡ refused Count) ×
-    (check_says table_106_1 good good good (neg_ℤ (pos 1)) (pos 100) full ≡ refused Number) × (check_says table_106_1 good good good (pos 100) (pos 100000001) full ≡ refused Number) ×
-    (check_says table_106_1 good good good (pos 100) (pos 100) bad ≡ refused Number) × (check_says table_106_1 good good good (pos 100) (pos 100) full ≡ answers Finding.Accepted)
+    (check_says table_106_1 eleven unlimited one (pos 100) (pos 100) full ≡ Err NoColumn) × (check_says table_106_1 unlimited one one (pos 100) (pos 100) full ≡ Err Unlimited) ×
+    (check_says table_106_1 good eleven one (pos 100) (pos 100) full ≡ Err NoColumn) × (check_says table_106_1 good good one (neg_ℤ (pos 1)) (pos 100) bad ≡ Err Count) ×
+    (check_says table_106_1 good good good (neg_ℤ (pos 1)) (pos 100) full ≡ Err Number) × (check_says table_106_1 good good good (pos 100) (pos 100000001) full ≡ Err Number) ×
+    (check_says table_106_1 good good good (pos 100) (pos 100) bad ≡ Err Number) × (check_says table_106_1 good good good (pos 100) (pos 100) full ≡ Ok None)
 unfolding check_says our_meets our_sheet pwl_of payment factor weighted composite final_pay pay_meets ruled table_106_1 sum squares spread upper_distance lower_distance side upper_side lower_side any_out evaluation_meets percentages_of first_of differences differing sheet_numbers
 lots_come_in_order = (refl, refl, refl, refl, refl, refl, refl, refl)
 
@@ -157,11 +156,11 @@ abbrev other : Sheet
 other = sheet (pos 9751) (pos 9128) (pos 9256) (pos 1001) (pos 0) (pos 63871999)
 
 pub sheets_are_compared :
-    (compare_says worked other (replicate 5 (pos 7)) ≡ answers 2) ×
+    (compare_says worked other (replicate 5 (pos 7)) ≡ Ok 2) ×
     (after_compare worked other (replicate 5 (pos 7)) ≡ pos 3 ∷ neg_ℤ (pos 3) ∷ pos 5 ∷ pos 1 ∷ pos 7 ∷ []) ×
     (after_compare other worked (replicate 4 (pos 7)) ≡ pos 3 ∷ pos 3 ∷ pos 5 ∷ neg_ℤ (pos 1) ∷ []) ×
-    (compare_says worked other (replicate 3 (pos 7)) ≡ refused Room) × (after_compare worked other (replicate 3 (pos 7)) ≡ replicate 3 (pos 7)) ×
-    (compare_says worked worked [] ≡ answers 0) × (after_compare worked worked (replicate 1 (pos 7)) ≡ replicate 1 (pos 7)) ×
-    (compare_says bad other [] ≡ refused Number) × (compare_says other bad [] ≡ refused Number) × (after_compare other bad (replicate 2 (pos 7)) ≡ replicate 2 (pos 7))
+    (compare_says worked other (replicate 3 (pos 7)) ≡ Err Room) × (after_compare worked other (replicate 3 (pos 7)) ≡ replicate 3 (pos 7)) ×
+    (compare_says worked worked [] ≡ Ok 0) × (after_compare worked worked (replicate 1 (pos 7)) ≡ replicate 1 (pos 7)) ×
+    (compare_says bad other [] ≡ Err Number) × (compare_says other bad [] ≡ Err Number) × (after_compare other bad (replicate 2 (pos 7)) ≡ replicate 2 (pos 7))
 unfolding compare_says compare_meets written ruled differences differing sheet_numbers difference_numbers
 sheets_are_compared = (refl, refl, refl, refl, refl, refl, refl, refl, refl, refl)

@@ -4,8 +4,9 @@ use mathlib.Core.Bool.{true, false}
 use mathlib.Core.List.{List, [], ◌∷◌, ◌++◌}
 use Prim.Native.Nat.{ℕ, zero, suc}
 use lib.ListN.{take, drop, replicate}
+use Rattle.std.specs.Prelude.{Ok, Err}
 use Rattle.rules.specs.declared.Refusal.TheVariants.{Room, Unsound, NotRising, NoEdition}
-use Rattle.rules.specs.Said.{refused, answers, ruled}
+use Rattle.rules.specs.Said.{ruled}
 use Rattle.rules.specs.Record.{spelled, spell, twos}
 use Rattle.rules.specs.Table.{no_store, no_edition, no_column, a_column, rows, table_106_1, column_in}
 use Rattle.rules.specs.Edition.{column_of, accepted, table_of, in_twos, columns_from, edition_head_of, edition_of, edition_106_1}
@@ -106,16 +107,16 @@ columns_are_found = (refl, refl, refl, refl, refl, refl, refl, refl, refl, refl,
 -- ---- finding and listing
 
 pub editions_are_found :
-    (finding_says (one 7 3 ++ two 8) 7 ≡ answers 0) × (finding_says (one 7 3 ++ two 8) 8 ≡ answers 115) ×
-    (finding_says (one 7 3 ++ two 8) 9 ≡ refused NoEdition) × (finding_says (one 7 3 ++ one 8 18) 7 ≡ refused Unsound)
+    (finding_says (one 7 3 ++ two 8) 7 ≡ Ok 0) × (finding_says (one 7 3 ++ two 8) 8 ≡ Ok 115) ×
+    (finding_says (one 7 3 ++ two 8) 9 ≡ Err NoEdition) × (finding_says (one 7 3 ++ one 8 18) 7 ≡ Err Unsound)
 unfolding finding_says ruled start_in stored entries_in ends first_entry after_first rising accepted column_of column_in twos spelled
 editions_are_found = (refl, refl, refl, refl)
 
 pub editions_are_listed :
-    (listing_says (one 7 3 ++ two 8) (replicate 3 1) ≡ answers 2) × (after_listing (one 7 3 ++ two 8) (replicate 3 1) ≡ 7 ∷ 8 ∷ 1 ∷ []) ×
-    (listing_says (one 7 3 ++ two 8) (replicate 1 1) ≡ refused Room) × (after_listing (one 7 3 ++ two 8) (replicate 1 1) ≡ replicate 1 1) ×
-    (listing_says [] [] ≡ answers 0) ×
-    (listing_says (one 7 3 ++ one 8 18) [] ≡ refused Unsound) × (after_listing (one 7 3 ++ one 8 18) (replicate 3 1) ≡ replicate 3 1)
+    (listing_says (one 7 3 ++ two 8) (replicate 3 1) ≡ Ok 2) × (after_listing (one 7 3 ++ two 8) (replicate 3 1) ≡ 7 ∷ 8 ∷ 1 ∷ []) ×
+    (listing_says (one 7 3 ++ two 8) (replicate 1 1) ≡ Err Room) × (after_listing (one 7 3 ++ two 8) (replicate 1 1) ≡ replicate 1 1) ×
+    (listing_says [] [] ≡ Ok 0) ×
+    (listing_says (one 7 3 ++ one 8 18) [] ≡ Err Unsound) × (after_listing (one 7 3 ++ one 8 18) (replicate 3 1) ≡ replicate 3 1)
 unfolding listing_says written ruled entries_in ends first_entry after_first rising accepted column_of column_in twos spelled
 editions_are_listed = (refl, refl, refl, refl, refl, refl, refl)
 
@@ -128,20 +129,20 @@ empty behind = 0 ∷ 0 ∷ replicate behind 9
 -- A zero length is written over, and written after the entry where two bytes or more follow. Other bytes stay: those behind it, and one left over.
 -- An exact fit is room enough, and one byte less is not.
 pub editions_are_stored :
-    (storing_says (empty 116) (one 7 3) ≡ answers 0) × (after_storing (empty 116) (one 7 3) ≡ one 7 3 ++ (0 ∷ 0 ∷ 9 ∷ [])) ×
+    (storing_says (empty 116) (one 7 3) ≡ Ok 0) × (after_storing (empty 116) (one 7 3) ≡ one 7 3 ++ (0 ∷ 0 ∷ 9 ∷ [])) ×
     (after_storing (empty 115) (one 7 3) ≡ one 7 3 ++ (0 ∷ 0 ∷ [])) × (after_storing (empty 114) (one 7 3) ≡ one 7 3 ++ (9 ∷ [])) ×
     (after_storing (empty 113) (one 7 3) ≡ one 7 3) ×
-    (storing_says (empty 112) (one 7 3) ≡ refused Room) × (after_storing (empty 112) (one 7 3) ≡ empty 112) ×
-    (storing_says (one 7 3 ++ empty 113) (one 8 4) ≡ answers 115) × (after_storing (one 7 3 ++ empty 113) (one 8 4) ≡ one 7 3 ++ one 8 4)
+    (storing_says (empty 112) (one 7 3) ≡ Err Room) × (after_storing (empty 112) (one 7 3) ≡ empty 112) ×
+    (storing_says (one 7 3 ++ empty 113) (one 8 4) ≡ Ok 115) × (after_storing (one 7 3 ++ empty 113) (one 8 4) ≡ one 7 3 ++ one 8 4)
 unfolding storing_says storing_meets ruled left_by stored_at closed size_of least_after entries_in ends first_entry after_first rising accepted column_of column_in twos spelled
 editions_are_stored = (refl, refl, refl, refl, refl, refl, refl, refl, refl)
 
 -- 11 for the store or the edition; then 12; then 8, for a ninth too.
 pub storing_is_refused :
-    (storing_says (one 7 3 ++ one 8 18) (one 9 3) ≡ refused Unsound) × (storing_says (one 7 3) (one 6 18) ≡ refused Unsound) ×
-    (storing_says (one 7 3) (one 7 3) ≡ refused NotRising) × (storing_says (one 7 3 ++ empty 200) (one 6 3) ≡ refused NotRising) ×
-    (storing_says (many 8 1) (one 8 3) ≡ refused NotRising) × (storing_says (many 8 1 ++ empty 200) (one 9 3) ≡ refused Room) ×
-    (storing_says (many 7 1 ++ empty 200) (one 9 3) ≡ answers 805) ×
+    (storing_says (one 7 3 ++ one 8 18) (one 9 3) ≡ Err Unsound) × (storing_says (one 7 3) (one 6 18) ≡ Err Unsound) ×
+    (storing_says (one 7 3) (one 7 3) ≡ Err NotRising) × (storing_says (one 7 3 ++ empty 200) (one 6 3) ≡ Err NotRising) ×
+    (storing_says (many 8 1) (one 8 3) ≡ Err NotRising) × (storing_says (many 8 1 ++ empty 200) (one 9 3) ≡ Err Room) ×
+    (storing_says (many 7 1 ++ empty 200) (one 9 3) ≡ Ok 805) ×
     (after_storing (one 7 3 ++ empty 1) (one 7 3) ≡ one 7 3 ++ empty 1)
 unfolding storing_says storing_meets ruled left_by stored_at closed size_of least_after entries_in ends first_entry after_first rising accepted column_of column_in twos spelled
 storing_is_refused = (refl, refl, refl, refl, refl, refl, refl, refl)

@@ -7,9 +7,11 @@ use native.Mathlib.Omega.{arith}
 use lib.IntN.{ℤ, pos, ◌-ℤ◌}
 use lib.ListN.{length, take, drop, get_or, set, length-drop}
 use lib.Signed.{lt_z, ≤ℤ_refl}
-use lib.Seq.{take_all, drop-cons, drop-length}
+use lib.Seq.{take_all, drop-cons, drop-length, drop-drop}
+use Rattle.std.specs.Prelude.{Some, None}
+use Rattle.std.proofs.lemmas.Grind.{common_steps}
+use Rattle.std.proofs.lemmas.List.{drop-set-lt}
 use Rattle.rules.specs.declared.Difference.{Difference}
-use Rattle.rules.specs.declared.Finding.{Finding}
 use Rattle.rules.specs.Sheet.{differ, differing, first_of, difference_numbers}
 use Rattle.integers.proofs.Order.{≤ℤ_antisym, le_lt_z, lt_z_false}
 use Rattle.laws.specs.Sheet.{Passed}
@@ -117,11 +119,11 @@ module _ (xs ys : List ℤ) where
 -- ---- what is named, and what is listed
 
 -- The first of some differences.
-pub first_is_named : {ds : List Difference} {d : Difference} {rest : List Difference} → ds ≡ d ∷ rest → first_of ds ≡ Finding.Differs d
+pub first_is_named : {ds : List Difference} {d : Difference} {rest : List Difference} → ds ≡ d ∷ rest → first_of ds ≡ Some d
 unfolding first_of
 first_is_named e = ap first_of e
 
-pub none_is_accepted : (ds : List Difference) → 0 ≡ length ds → first_of ds ≡ Finding.Accepted
+pub none_is_accepted : (ds : List Difference) → 0 ≡ length ds → first_of ds ≡ None
 unfolding first_of
 none_is_accepted [] e = refl
 none_is_accepted (d ∷ ds) e = absurd (omega arith)
@@ -162,3 +164,40 @@ pub differences_filled : (ds : List Difference) (items : ℕ) (old : List ℤ) {
 differences_filled ds items old e filled =
     let all = take_all (2 * length ds) (difference_numbers ds) (omega (arith, length_differences ds)) in
     filled ∙ ap (λ (k : ℕ). take (2 * k) (difference_numbers ds) ++ drop (2 * k) old) e ∙ ap (λ (ns : List ℤ). ns ++ drop (2 * length ds) old) all
+
+-- ---- a lent list, as a loop over two lists fills it: after the differences that are filled in come those of what is left
+
+pub record Listed (xs ys old : List ℤ) (i items : ℕ) (out : List ℤ) : Type 0 where
+  pub counted : items + length (differing i (drop i xs) (drop i ys)) ≡ length (differing 0 xs ys)
+  pub begins : take (2 * items) out ++ difference_numbers (differing i (drop i xs) (drop i ys)) ≡ difference_numbers (differing 0 xs ys)
+  pub rest : drop (2 * items) out ≡ drop (2 * items) old
+
+-- Two numbers more are filled in.
+two_more :
+    (out old rest : List ℤ) (n : ℕ) {m : ℕ} (a b : ℤ) → m ≡ n + 2 → n + 1 < length out → drop n out ≡ drop n old →
+    (take m (set (set out n a) (n + 1) b) ++ rest ≡ take n out ++ (a ∷ b ∷ rest)) × (drop m (set (set out n a) (n + 1) b) ≡ drop m old)
+two_more out old rest n a b m room same = (grind (arith, common_steps), grind (arith, common_steps, drop-set-lt, drop-drop))
+
+module _ (xs ys old out : List ℤ) (i items : ℕ) (here : i < length xs) (there : i < length ys) (h : Listed xs ys old i items out) where
+  abbrev left : List Difference
+  left = differing (i + 1) (drop (i + 1) xs) (drop (i + 1) ys)
+
+  pub same_listed : differ (get_or xs i (pos 0)) (get_or ys i (pos 0)) ≡ false → Listed xs ys old (i + 1) items out
+  unfolding differing
+  same_listed e =
+      let same : differing i (drop i xs) (drop i ys) ≡ left = grind (arith, common_steps) in
+      record { counted = rw same at h.counted; begins = rw same at h.begins; rest = h.rest }
+
+  pub difference_listed :
+      differ (get_or xs i (pos 0)) (get_or ys i (pos 0)) ≡ true → 2 * length (differing 0 xs ys) ≤ length out →
+      Listed xs ys old (i + 1) (items + 1) (set (set out (2 * items) (pos i)) (2 * items + 1) (get_or xs i (pos 0) -ℤ get_or ys i (pos 0)))
+  unfolding differing difference_numbers
+  difference_listed e room =
+      let next : differing i (drop i xs) (drop i ys) ≡ difference i (get_or xs i (pos 0)) (get_or ys i (pos 0)) ∷ left = grind (arith, common_steps) in
+      let counted : items + suc (length left) ≡ length (differing 0 xs ys) = rw next at h.counted in
+      let more = two_more out old (difference_numbers left) (2 * items) {m = 2 * (items + 1)} (pos i) (get_or xs i (pos 0) -ℤ get_or ys i (pos 0)) (omega arith) (omega arith) h.rest in
+      record {
+        counted = omega arith;
+        begins = more.0 ∙ rw next at h.begins;
+        rest = more.1;
+      }

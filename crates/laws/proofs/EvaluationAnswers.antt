@@ -5,17 +5,14 @@ use mathlib.Core.Path.{◌≡◌, sym, ap, ◌∙◌}
 use native.Mathlib.Omega.{arith}
 use lib.IntN.{ℤ, pos, ◌+ℤ◌, ◌-ℤ◌}
 use lib.Signed.{◌≤ℤ◌, ◌<ℤ◌}
+use Rattle.std.specs.Prelude.{Some, Ok}
 use Rattle.rules.specs.declared.Thousandths.{Thousandths}
-use Rattle.rules.specs.declared.Limit.{Limit}
-use Rattle.rules.specs.declared.Limit.TheVariants.{At}
+use Rattle.rules.specs.Units.{Limit}
 use Rattle.rules.specs.declared.Percentages.{Percentages}
 use Rattle.rules.specs.declared.Totals.{Totals}
-use Rattle.rules.specs.declared.Evaluation.{Evaluation}
-use Rattle.rules.specs.Said.{answers}
 use Rattle.rules.specs.Lot.{Lot}
 use Rattle.rules.specs.Table.{Table, entries}
 use Rattle.rules.specs.Percent.{nearest, totals, spread}
-use Rattle.rules.specs.Answers.{evaluation_said}
 use Rattle.rules.specs.Entries.{percentages_of, evaluation_says}
 use Rattle.laws.specs.Column.{Column, Columns}
 use Rattle.laws.specs.Wider.{with_limits, UpperAsWide, LowerAsWide}
@@ -27,7 +24,7 @@ use Rattle.laws.proofs.Wider.{wider_is_not_lower}
 
 module _ (table : Table) (shape : Columns table) where
   -- Where a lot is answered, the table has a column for it, which starts at 50.00, never falls and ends at 100.00.
-  pub answered_has_a_column : (lot : Lot) (p : Percentages) → evaluation_says table lot ≡ answers p → Column (entries (table lot.n))
+  pub answered_has_a_column : (lot : Lot) (p : Percentages) → evaluation_says table lot ≡ Ok p → Column (entries (table lot.n))
   unfolding evaluation_says
   answered_has_a_column lot p e = shape lot.n (answered nearest (table lot.n) lot p e).2
 
@@ -35,8 +32,8 @@ module _ (table : Table) (shape : Columns table) where
   pub wider_answer_is_not_lower :
       (lot : Lot) (upper lower : Limit) (p q : Percentages) →
       UpperAsWide lot.upper upper → LowerAsWide lot.lower lower →
-      evaluation_said (Evaluation.Answers p) ≡ evaluation_says table lot →
-      evaluation_said (Evaluation.Answers q) ≡ evaluation_says table (with_limits upper lower lot) →
+      (Ok p) ≡ evaluation_says table lot →
+      (Ok q) ≡ evaluation_says table (with_limits upper lower lot) →
       (p.upper.0 ≤ℤ q.upper.0) × (p.lower.0 ≤ℤ q.lower.0) × (p.pwl.0 ≤ℤ q.pwl.0)
   unfolding evaluation_says
   wider_answer_is_not_lower lot upper lower p q above below e f =
@@ -45,7 +42,7 @@ module _ (table : Table) (shape : Columns table) where
   -- The sides' sum less 100 lies in 0 to 100, with no clamp: it is the PWL.
   pub answer_adds_up :
       (lot : Lot) (p : Percentages) →
-      evaluation_said (Evaluation.Answers p) ≡ evaluation_says table lot →
+      (Ok p) ≡ evaluation_says table lot →
       (pos 0 ≤ℤ ((p.upper.0 +ℤ p.lower.0) -ℤ pos 10000)) ×
       (((p.upper.0 +ℤ p.lower.0) -ℤ pos 10000) ≤ℤ pos 10000) ×
       (p.pwl.0 ≡ (p.upper.0 +ℤ p.lower.0) -ℤ pos 10000)
@@ -57,11 +54,11 @@ module _ (table : Table) (shape : Columns table) where
   pub equal_limits_hold_nothing :
       (lot : Lot) (z : Thousandths) (p : Percentages) →
       pos 0 <ℤ spread (totals lot.n lot.readings) →
-      evaluation_said (Evaluation.Answers p) ≡ evaluation_says table (with_limits (At z) (At z) lot) →
+      (Ok p) ≡ evaluation_says table (with_limits (Some z) (Some z) lot) →
       p.pwl.0 ≡ pos 0
   unfolding evaluation_says percentages_of
   equal_limits_hold_nothing lot z p above e =
-      let both : Lot = with_limits (At z) (At z) lot in
+      let both : Lot = with_limits (Some z) (Some z) lot in
       let h = answered nearest (table lot.n) both p (sym e) in
       let a : Totals = totals lot.n lot.readings in
       let even = nearest_even_rule lot.n (omega (arith, h.0.least)) in

@@ -6,15 +6,13 @@ use Prim.Native.Nat.{ℕ, zero, suc, ◌≤◌}
 use native.Mathlib.Omega.{arith}
 use lib.IntN.{ℤ, pos}
 use lib.ListN.{length, take, drop, get_or}
+use Rattle.std.specs.Prelude.{Some, None, Ok}
 use Rattle.rules.specs.declared.Thousandths.{Thousandths}
-use Rattle.rules.specs.declared.Limit.{Limit}
-use Rattle.rules.specs.declared.Limit.TheVariants.{Absent, At}
+use Rattle.rules.specs.Units.{Limit, thousandths}
 use Rattle.rules.specs.declared.HeldLot.{HeldLot}
 use Rattle.rules.specs.declared.host.HostLot.{HostLot}
 use Rattle.rules.specs.declared.host.HostRead.{HostRead}
 use Rattle.rules.specs.declared.host.HostWritten.{HostWritten}
-use Rattle.rules.specs.Units.{thousandths}
-use Rattle.rules.specs.Said.{answers}
 use Rattle.rules.specs.Lot.{Lot, most, plain, lot_in}
 use Rattle.rules.specs.Entries.{read_says, held, read_leaves, write_says, after_write}
 use Rattle.rules.specs.Host.{held_limit, held_lot, limit_numbers, host_lot, host_read, host_written}
@@ -26,8 +24,8 @@ use Rattle.laws.proofs.Given.{zero_in_read, written_given}
 -- ---- a lot in memory, handed to C and back
 
 limit_back : (l : Limit) → held_limit (limit_numbers l) ≡ l
-limit_back Absent = refl
-limit_back (At z) = refl
+limit_back None = refl
+limit_back (Some z) = refl
 
 -- what stands at the first n places
 abbrev listed : ℕ → (ℕ → ℤ) → List ℤ
@@ -46,7 +44,7 @@ held_lot_returns h size =
     λ i. record { upper = limit_back h.upper i; lower = limit_back h.lower i; count = h.count; readings = places_back most h.readings size i }
 
 -- So the lot in C's struct after a read is the lot that was read.
-pub given_lot_is_read : (bs : List ℕ) (lot : Lot) (r : HostRead) → read_says bs ≡ answers lot → r ≡ host_read (read_leaves bs) → lot_in (held_lot r.lot) ≡ lot
+pub given_lot_is_read : (bs : List ℕ) (lot : Lot) (r : HostRead) → read_says bs ≡ Ok lot → r ≡ host_read (read_leaves bs) → lot_in (held_lot r.lot) ≡ lot
 given_lot_is_read bs lot r e f =
     ap (λ (x : HostRead). lot_in (held_lot x.lot)) f
     ∙ ap lot_in (held_lot_returns (held (read_says bs)) (read_has_all_places bs))
@@ -61,7 +59,7 @@ pub given_lot_reads_back :
     r ≡ host_read (read_leaves (take w.size after)) →
     (r.refusal.number ≡ 0) × (lot_in (held_lot r.lot) ≡ lot_in (held_lot lot))
 given_lot_reads_back lot out after w r e f z g =
-    let back : read_says (take w.size after) ≡ answers (lot_in (held_lot lot)) = rw f (write_reads_back (lot_in (held_lot lot)) out w.size (lot_in_counted (held_lot lot) refl) (written_given _ w e z)) in
+    let back : read_says (take w.size after) ≡ Ok (lot_in (held_lot lot)) = rw f (write_reads_back (lot_in (held_lot lot)) out w.size (lot_in_counted (held_lot lot) refl) (written_given _ w e z)) in
     ((zero_in_read _ r g).1 (_, back), given_lot_is_read (take w.size after) _ r back g)
 
 -- An accepted record, read and written again into any slice with room for it, is the same bytes, and what stood after them stays.
@@ -74,5 +72,5 @@ given_record_writes_back bs out after r w h room e z f g =
     let read = (zero_in_read (read_says bs) r e).0 z in
     let same = given_lot_is_read bs read.0 r read.1 e in
     let back = read_writes_back bs out read.0 h room read.1 in
-    let w_is : w ≡ host_written (answers (length bs)) = f ∙ ap host_written (ap (λ (l : Lot). write_says l out) same ∙ back.0) in
+    let w_is : w ≡ host_written (Ok (length bs)) = f ∙ ap host_written (ap (λ (l : Lot). write_says l out) same ∙ back.0) in
     (ap (λ (x : HostWritten). x.refusal.number) w_is, ap (λ (x : HostWritten). x.size) w_is, g ∙ ap (λ (l : Lot). after_write l out) same ∙ back.1)

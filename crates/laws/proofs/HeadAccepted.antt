@@ -7,7 +7,8 @@ use native.Mathlib.Omega.{arith}
 use borrow.Author.Tests.{ltb-false, eqb-true, not-false}
 use lib.Dec.{ltb, eqb}
 use lib.ListN.{length}
-use Rattle.rules.specs.Said.{answers, checked}
+use Rattle.std.specs.Prelude.{Ok}
+use Rattle.rules.specs.Said.{checked}
 use Rattle.rules.specs.Record.{spelled, length_field, version_field, flags_field, n_field, upper_field, lower_field, has_upper, has_lower, head_size, length_of}
 use Rattle.rules.specs.Refusals.{size_case, version_case, flags_case, record_count_case, allowed}
 use Rattle.rules.specs.Meets.{head_meets}
@@ -24,7 +25,7 @@ long_enough bs e = ltb-false (length bs) head_size (neither (ltb (length bs) hea
 zero_when_absent : (present : Bool) (x : ℕ) → not (present || eqb x 0) ≡ false → present ≡ false → x ≡ 0
 zero_when_absent present x h absent = eqb-true x 0 (rw absent at (not-false (present || eqb x 0) h))
 
-pub head_accepted : (bs : List ℕ) → checked (head_meets bs) ≡ answers tt → HeadAccepted bs
+pub head_accepted : (bs : List ℕ) → checked (head_meets bs) ≡ Ok tt → HeadAccepted bs
 head_accepted bs e =
     let size = none_met (size_case bs) _ e in
     let version = none_met (version_case bs) _ size.1 in

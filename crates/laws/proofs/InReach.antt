@@ -5,12 +5,13 @@ use Prim.Native.Nat.{ℕ, ◌+◌, ◌≤◌}
 use native.Mathlib.Omega.{arith}
 use borrow.Author.Tests.{not-false}
 use lib.IntN.{ℤ, pos, nat_abs}
+use Rattle.std.specs.Prelude.{Ok, Err}
 use Rattle.integers.proofs.Difference.{Diff, var, nat, diff_le, arithℤ, ⊝◌, ◌⊕◌, ◌⊖◌}
 use Rattle.integers.proofs.Order.{le_le_z}
 use Rattle.integers.proofs.Magnitude.{diff_within, within_diff, within_low, within_high}
 use Rattle.rules.specs.declared.Refusal.TheVariants.{Range, Number}
 use Rattle.rules.specs.Units.{in_range}
-use Rattle.rules.specs.Said.{refused, answers, ruled}
+use Rattle.rules.specs.Said.{ruled}
 use Rattle.rules.specs.Mixture.{vma_pair, voids_pair, mixture_limits}
 use Rattle.rules.specs.Refusals.{pair_out, mixture_case, offset_case}
 use Rattle.rules.specs.Meets.{mixture_meets}
@@ -58,16 +59,16 @@ module _ (mixture minimum target : ℤ) where
 
   -- The lookup answers the mixture's limits for a minimum and a target in reach and a mixture number from 0 to 3.
   pub in_reach_is_answered :
-      InReach minimum target → Between (pos 0) (pos 3) mixture → mixture_says mixture minimum target ≡ answers (mixture_limits mixture minimum target)
+      InReach minimum target → Between (pos 0) (pos 3) mixture → mixture_says mixture minimum target ≡ Ok (mixture_limits mixture minimum target)
   unfolding ruled mixture_says mixture_meets
   in_reach_is_answered h k = let known : (mixture_case mixture).applies ≡ false = not_outside k in rw (passes h, known)
 
   -- It refuses with 5 a minimum or a target out of reach, whatever the mixture number.
-  pub out_of_reach_is_refused : ¬ InReach minimum target → mixture_says mixture minimum target ≡ refused Range
+  pub out_of_reach_is_refused : ¬ InReach minimum target → mixture_says mixture minimum target ≡ Err Range
   unfolding mixture_says mixture_meets
   out_of_reach_is_refused h = ruled_refused _ _ _ case_passed h
 
   -- It refuses with 9 any other mixture number, where both are in reach.
-  pub unknown_mixture_is_refused : InReach minimum target → ¬ Between (pos 0) (pos 3) mixture → mixture_says mixture minimum target ≡ refused Number
+  pub unknown_mixture_is_refused : InReach minimum target → ¬ Between (pos 0) (pos 3) mixture → mixture_says mixture minimum target ≡ Err Number
   unfolding mixture_says mixture_meets
   unknown_mixture_is_refused h k = ruled_passed _ _ _ (passes h) ∙ ruled_refused _ _ _ (inside (pos 3) mixture) k

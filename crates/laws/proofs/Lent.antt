@@ -8,14 +8,14 @@ use borrow.Author.Tests.{leb-true, not-false}
 use lib.Dec.{leb, eqb}
 use lib.IntN.{ℤ, pos, nat_abs, ◌+ℤ◌}
 use lib.ListN.{length}
+use Rattle.std.specs.Prelude.{Ok, Err}
 use Rattle.integers.proofs.Magnitude.{nat_abs_add, nat_abs_sub}
 use Rattle.rules.specs.declared.Totals.{Totals}
-use Rattle.rules.specs.declared.Limit.{Limit}
+use Rattle.rules.specs.Units.{Limit}
 use Rattle.rules.specs.declared.Columned.{Columned}
-use Rattle.rules.specs.declared.ColumnAnswer.{ColumnAnswer}
 use Rattle.rules.specs.declared.Row.{Row}
 use Rattle.rules.specs.declared.Refusal.{Refusal}
-use Rattle.rules.specs.Said.{Case, refused, answers, ruled}
+use Rattle.rules.specs.Said.{Case, ruled, Said}
 use Rattle.rules.specs.Lot.{Lot, most, lot_of}
 use Rattle.rules.specs.Table.{Table, entries}
 use Rattle.rules.specs.Percent.{nearest, totals, spread, upper_side, lower_side}
@@ -63,7 +63,7 @@ pub record LentAccepted (table : Table) (upper lower : Limit) (bs : List ℕ) (a
   pub bounded : Bounded a
   pub upper_in_range : out_of_range upper ≡ false
   pub lower_in_range : out_of_range lower ≡ false
-  pub row : row_says table upper lower bs ≡ answers (row_of_totals table a upper lower)
+  pub row : row_says table upper lower bs ≡ Ok (row_of_totals table a upper lower)
 
 module _ (upper lower : Limit) (bs : List ℕ) where
   abbrev n : ℕ
@@ -91,8 +91,8 @@ module _ (upper lower : Limit) (bs : List ℕ) where
   unfolding totalled
   fitting_totals e = ruled_passed (bytes_count_case bs) _ _ (ap not e) ∙ ap (totalled lot_meets) lent_lot_is_listed
 
-  module _ (table : Table) {t : ColumnAnswer} (e : columned_said t ≡ totalled (row_by_table table bs) (lent_lot upper lower bs)) where
-    pub lent_accepted : {c : Columned} → t ≡ ColumnAnswer.Answers c → LentAccepted table upper lower bs c.totals
+  module _ (table : Table) {t : Said Columned} (e : columned_said t ≡ totalled (row_by_table table bs) (lent_lot upper lower bs)) where
+    pub lent_accepted : {c : Columned} → t ≡ Ok c → LentAccepted table upper lower bs c.totals
     unfolding totalled row_meets evaluation_meets lent_lot row_says
     lent_accepted h =
         let lot : Lot = lent_lot upper lower bs in
@@ -105,9 +105,9 @@ module _ (upper lower : Limit) (bs : List ℕ) where
           bounded = totals_bounded (lent_readings accepted) (sym answered.1 ∙ ap (λ (m : ℕ). totals m (fours n bs)) (sym (length_fours n bs)));
           upper_in_range = accepted.upper_in_range;
           lower_in_range = accepted.lower_in_range;
-          row = ruled_unrefused (row_by_table table bs lot) _ answered.0 ∙ ap (λ (b : Totals). answers (row_of_totals table b upper lower)) answered.1;
+          row = ruled_unrefused (row_by_table table bs lot) _ answered.0 ∙ ap (λ (b : Totals). Ok (row_of_totals table b upper lower)) answered.1;
         }
 
-    pub lent_refused : {refusal : Refusal} → t ≡ ColumnAnswer.Refused refusal → row_says table upper lower bs ≡ refused refusal
+    pub lent_refused : {refusal : Refusal} → t ≡ Err refusal → row_says table upper lower bs ≡ Err refusal
     unfolding totalled row_says
     lent_refused h = refused_alike (row_by_table table bs (lent_lot upper lower bs)) (lot_totals (lent_lot upper lower bs)) _ (sym e ∙ ap columned_said h)

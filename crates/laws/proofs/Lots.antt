@@ -7,20 +7,21 @@ use native.Mathlib.Omega.{arith}
 use lib.IntN.{ℤ, neg_ℤ, ◌+ℤ◌}
 use lib.ListN.{length, length-map, take}
 use lib.Seq.{length-take-le}
+use Rattle.std.specs.Prelude.{Ok, Err}
 use Rattle.rules.specs.declared.Thousandths.{Thousandths}
-use Rattle.rules.specs.declared.Limit.{Limit}
+use Rattle.rules.specs.Units.{Limit, thousandths}
 use Rattle.rules.specs.declared.Totals.{Totals}
 use Rattle.rules.specs.declared.Refusal.TheVariants.{Range}
 use Rattle.rules.specs.declared.HeldLot.{HeldLot}
-use Rattle.rules.specs.Units.{thousandths}
-use Rattle.rules.specs.Said.{refused, answers, ruled}
+use Rattle.rules.specs.Said.{ruled, Said}
 use Rattle.rules.specs.Lot.{lot_of, plain, places, lot_in, most}
 use Rattle.rules.specs.Percent.{totals}
 use Rattle.rules.specs.Refusals.{out_of_range, any_out}
 use Rattle.rules.specs.Meets.{limits_meet, lot_meets}
-use Rattle.laws.specs.Totalled.{walk_says, limited_say, with_limits_say, totalled}
+use Rattle.laws.specs.Totalled.{walk_says, limited_say, with_limits_say, totalled, said_of}
 use Rattle.laws.specs.Turned.{turned_limit, turned, turned_held}
 use Rattle.laws.specs.Moved.{moved_readings, moved_limit, moved, moved_held, Counted}
+use Rattle.laws.proofs.Ruled.{ruled_of}
 
 -- To apply f at every place of a lot in memory and take the first k is to take the first k and apply f.
 first_places : (f : ℤ → ℤ) (k : ℕ) (xs : List Thousandths) → take k (plain (map (λ (x : Thousandths). thousandths (f x.0)) xs)) ≡ map f (take k (plain xs))
@@ -60,7 +61,17 @@ walked_with_limits upper lower xs = by (out_of_range upper || out_of_range lower
     a : Totals
     a = totals (length xs) xs
 
-    by : (limits readings : Bool) → cond limits (refused Range) (limited_say upper lower (cond readings (refused Range) (answers a))) ≡ cond (limits || readings) (refused Range) (ruled (limits_meet upper lower) a)
+    by : (limits readings : Bool) → cond limits (Err Range) (limited_say upper lower (cond readings (Err Range) (Ok a))) ≡ cond (limits || readings) (Err Range) (ruled (limits_meet upper lower) a)
     by true readings = refl
     by false true = refl
     by false false = refl
+
+-- Limits say the same of something that a walk's values have.
+pub with_limits_of : {A B : Type 0} (f : A → B) (upper lower : Limit) (said : Said A) → said_of f (with_limits_say upper lower said) ≡ with_limits_say upper lower (said_of f said)
+unfolding with_limits_say
+with_limits_of {A} f upper lower = by (out_of_range upper || out_of_range lower)
+  where
+    by : (limits : Bool) (s : Said A) → said_of f (cond limits (Err Range) (limited_say upper lower s)) ≡ cond limits (Err Range) (limited_say upper lower (said_of f s))
+    by true s = refl
+    by false (Err r) = refl
+    by false (Ok a) = ruled_of f (limits_meet upper lower) a

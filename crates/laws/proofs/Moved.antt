@@ -6,11 +6,11 @@ use mathlib.Core.List.{List}
 use Prim.Native.Nat.{ℕ}
 use lib.IntN.{ℤ, pos, ◌+ℤ◌, ◌*ℤ◌}
 use lib.ListN.{length, length-map}
+use Rattle.std.specs.Prelude.{Some, None, Ok}
 use Rattle.integers.proofs.Order.{lt_z_shift}
-use Rattle.rules.specs.declared.Limit.{Limit}
-use Rattle.rules.specs.declared.Limit.TheVariants.{Absent, At}
+use Rattle.rules.specs.Units.{Limit}
 use Rattle.rules.specs.declared.Mean.{Mean}
-use Rattle.rules.specs.Said.{answers, ruled}
+use Rattle.rules.specs.Said.{ruled}
 use Rattle.rules.specs.Lot.{Lot}
 use Rattle.rules.specs.Table.{Found, entries}
 use Rattle.rules.specs.Percent.{Rule, totals, upper_side, lower_side}
@@ -26,40 +26,40 @@ use Rattle.laws.proofs.MovedTotals.{sum_moves, spread_stays, upper_distance_stay
 -- ---- the cases that are met
 
 none_stays : (amount : ℤ) (upper lower : Limit) → none (moved_limit amount upper) (moved_limit amount lower) ≡ none upper lower
-none_stays amount Absent Absent = refl
-none_stays amount Absent (At l) = refl
-none_stays amount (At u) lower = refl
+none_stays amount None None = refl
+none_stays amount None (Some l) = refl
+none_stays amount (Some u) lower = refl
 
 crossed_stays : (amount : ℤ) (upper lower : Limit) → crossed (moved_limit amount upper) (moved_limit amount lower) ≡ crossed upper lower
-crossed_stays amount Absent lower = refl
-crossed_stays amount (At u) Absent = refl
-crossed_stays amount (At u) (At l) = lt_z_shift u.0 l.0 amount
+crossed_stays amount None lower = refl
+crossed_stays amount (Some u) None = refl
+crossed_stays amount (Some u) (Some l) = lt_z_shift u.0 l.0 amount
 
 -- ---- the rows tried
 
 module _ (amount : ℤ) (xs : List ℤ) where
   upper_tried_stays : (upper : Limit) → upper_tried (totals (length xs) (moved_readings amount xs)) (moved_limit amount upper) ≡ upper_tried (totals (length xs) xs) upper
   unfolding upper_tried
-  upper_tried_stays Absent = refl
-  upper_tried_stays (At u) = rw (spread_stays amount xs, upper_distance_stays amount xs u.0)
+  upper_tried_stays None = refl
+  upper_tried_stays (Some u) = rw (spread_stays amount xs, upper_distance_stays amount xs u.0)
 
   lower_tried_stays : (lower : Limit) → lower_tried (totals (length xs) (moved_readings amount xs)) (moved_limit amount lower) ≡ lower_tried (totals (length xs) xs) lower
   unfolding lower_tried
-  lower_tried_stays Absent = refl
-  lower_tried_stays (At l) = rw (spread_stays amount xs, lower_distance_stays amount xs l.0)
+  lower_tried_stays None = refl
+  lower_tried_stays (Some l) = rw (spread_stays amount xs, lower_distance_stays amount xs l.0)
 
 -- ---- the percentages
 
 module _ (rule : Rule) (column : List ℕ) (amount : ℤ) where
   upper_side_stays : (xs : List ℤ) (upper : Limit) → upper_side rule column (totals (length xs) (moved_readings amount xs)) (moved_limit amount upper) ≡ upper_side rule column (totals (length xs) xs) upper
   unfolding upper_side
-  upper_side_stays xs Absent = refl
-  upper_side_stays xs (At u) = rw (spread_stays amount xs, upper_distance_stays amount xs u.0)
+  upper_side_stays xs None = refl
+  upper_side_stays xs (Some u) = rw (spread_stays amount xs, upper_distance_stays amount xs u.0)
 
   lower_side_stays : (xs : List ℤ) (lower : Limit) → lower_side rule column (totals (length xs) (moved_readings amount xs)) (moved_limit amount lower) ≡ lower_side rule column (totals (length xs) xs) lower
   unfolding lower_side
-  lower_side_stays xs Absent = refl
-  lower_side_stays xs (At l) = rw (spread_stays amount xs, lower_distance_stays amount xs l.0)
+  lower_side_stays xs None = refl
+  lower_side_stays xs (Some l) = rw (spread_stays amount xs, lower_distance_stays amount xs l.0)
 
   percentages_stay : (lot : Lot) → length lot.readings ≡ lot.n → percentages rule column (moved amount lot) ≡ percentages rule column lot
   unfolding percentages_of
@@ -98,8 +98,8 @@ moving_keeps_deviation amount xs all_in_range all_in_range' = rw (all_in_range, 
 -- T moves by n times the amount.
 pub moving_moves_sum :
     (amount : ℤ) (xs : List ℤ) (m m' : Mean) →
-    mean_says xs ≡ answers m →
-    mean_says (moved_readings amount xs) ≡ answers m' →
+    mean_says xs ≡ Ok m →
+    mean_says (moved_readings amount xs) ≡ Ok m' →
     (m'.total.0 ≡ m.total.0 +ℤ pos m.count *ℤ amount) × (m'.count ≡ m.count)
 unfolding mean_says
 moving_moves_sum amount xs m m' e e' = rw (← (ruled_answers _ _ _ e).1, ← (ruled_answers _ _ _ e').1) (sum_moves amount xs, length-map xs _)

@@ -6,14 +6,12 @@ use Prim.Native.Nat.{ℕ}
 use native.Mathlib.Omega.{arith}
 use lib.IntN.{ℤ, pos, ◌+ℤ◌, ◌-ℤ◌}
 use lib.Signed.{◌≤ℤ◌, ≤ℤ_refl}
+use Rattle.std.specs.Prelude.{Some, None, Ok}
 use Rattle.integers.proofs.Difference.{var, nat, diff_le, le_diff, le_read, ◌⊕◌, ◌⊖◌, ◌⊗◌}
 use Rattle.integers.proofs.Order.{+ℤ_mono, *ℤ_mono_l, lt_z_false}
-use Rattle.rules.specs.declared.Limit.{Limit}
-use Rattle.rules.specs.declared.Limit.TheVariants.{Absent, At}
+use Rattle.rules.specs.Units.{Limit, hundred_percent}
 use Rattle.rules.specs.declared.Percentages.{Percentages}
 use Rattle.rules.specs.declared.Totals.{Totals}
-use Rattle.rules.specs.Said.{answers}
-use Rattle.rules.specs.Units.{hundred_percent}
 use Rattle.rules.specs.Lot.{Lot}
 use Rattle.rules.specs.Table.{Found, entries}
 use Rattle.rules.specs.Percent.{Rule, totals, spread, upper_distance, lower_distance, upper_side, lower_side}
@@ -49,9 +47,9 @@ module _ (rule : Rule) (column : List ℕ) (a : Totals) (rows : RowRule rule a.n
 
   hundred_or_more : (upper lower : Limit) → crossed upper lower ≡ false → hundred_percent ≤ℤ (upper_side rule column a upper +ℤ lower_side rule column a lower)
   unfolding upper_side lower_side
-  hundred_or_more Absent lower e = +ℤ_mono (≤ℤ_refl hundred_percent) (lower_in_percent lower).low
-  hundred_or_more (At u) Absent e = +ℤ_mono (upper_in_percent (At u)).low (≤ℤ_refl hundred_percent)
-  hundred_or_more (At u) (At l) e =
+  hundred_or_more None lower e = +ℤ_mono (≤ℤ_refl hundred_percent) (lower_in_percent lower).low
+  hundred_or_more (Some u) None e = +ℤ_mono (upper_in_percent (Some u)).low (≤ℤ_refl hundred_percent)
+  hundred_or_more (Some u) (Some l) e =
       sides_cover rule column a.n rows shape (spread a) (upper_distance a u.0) (lower_distance a l.0) (distances_add_up a u.0 l.0 (lt_z_false _ _ e))
 
   sum_in_percent : (upper lower : Limit) → crossed upper lower ≡ false → InPercent ((upper_side rule column a upper +ℤ lower_side rule column a lower) -ℤ pos 10000)
@@ -68,7 +66,7 @@ module _ (rule : Rule) (column : List ℕ) (a : Totals) (rows : RowRule rule a.n
 pub sides_add_up :
     (rule : Rule) (found : Found) (lot : Lot) (p : Percentages) →
     RowRule rule lot.n → Column (entries found) →
-    evaluated rule found lot ≡ answers p →
+    evaluated rule found lot ≡ Ok p →
     (pos 0 ≤ℤ ((p.upper.0 +ℤ p.lower.0) -ℤ pos 10000)) ×
     (((p.upper.0 +ℤ p.lower.0) -ℤ pos 10000) ≤ℤ pos 10000) ×
     (p.pwl.0 ≡ (p.upper.0 +ℤ p.lower.0) -ℤ pos 10000)
@@ -82,7 +80,7 @@ sides_add_up rule found lot p rows shape e =
 pub pwl_in_percent :
     (rule : Rule) (found : Found) (lot : Lot) (p : Percentages) →
     RowRule rule lot.n → Column (entries found) →
-    evaluated rule found lot ≡ answers p →
+    evaluated rule found lot ≡ Ok p →
     InPercent p.pwl.0
 pwl_in_percent rule found lot p rows shape e =
     let h = sides_add_up rule found lot p rows shape e in

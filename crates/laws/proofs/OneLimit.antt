@@ -6,11 +6,11 @@ use Prim.Native.Nat.{ℕ}
 use native.Mathlib.Omega.{arith}
 use lib.IntN.{ℤ, pos, neg_ℤ, ◌+ℤ◌, ◌*ℤ◌, neg_ℤ-neg_ℤ, +ℤ_comm}
 use lib.Signed.{◌≤ℤ◌, ◌<ℤ◌}
+use Rattle.std.specs.Prelude.{Some}
 use Rattle.integers.proofs.Difference.{var, nat, diff_eq, le_diff, arithℤ, ⊝◌, ◌⊕◌, ◌⊖◌}
 use Rattle.integers.proofs.Ring.{neg_-ℤ}
 use Rattle.integers.proofs.Order.{≤ℤ_total, <ℤ→≤ℤ, neg_flips, le_le_z, lt_le_z, lt_lt_z}
 use Rattle.rules.specs.declared.Thousandths.{Thousandths}
-use Rattle.rules.specs.declared.Limit.TheVariants.{At}
 use Rattle.rules.specs.declared.Totals.{Totals}
 use Rattle.rules.specs.Units.{hundred_percent}
 use Rattle.rules.specs.Table.{entry}
@@ -60,7 +60,7 @@ pub equal_limits_add_up :
     (rule : Rule) (column : List ℕ) (a : Totals) (z : Thousandths) →
     EvenRule rule a.n → Column column →
     pos 0 <ℤ spread a →
-    upper_side rule column a (At z) +ℤ lower_side rule column a (At z) ≡ pos 10000
+    upper_side rule column a (Some z) +ℤ lower_side rule column a (Some z) ≡ pos 10000
 unfolding upper_side lower_side upper_distance lower_distance
 equal_limits_add_up rule column a z even shape above =
     subst (λ (d : ℤ). side rule column a.n (spread a) (upper_distance a z.0) +ℤ side rule column a.n (spread a) d ≡ pos 10000)

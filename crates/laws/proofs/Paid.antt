@@ -3,10 +3,10 @@ use mathlib.Core.Path.{◌≡◌}
 use Prim.Native.Nat.{◌*◌}
 use lib.IntN.{ℤ, pos, negsuc}
 use lib.Signed.{◌≤ℤ◌, ≤ℤ_refl}
+use Rattle.std.specs.Prelude.{Ok}
 use Rattle.integers.proofs.Order.{+ℤ_mono, *ℤ_mono_l}
 use Rattle.integers.proofs.Division.{quot_z_mono}
 use Rattle.rules.specs.declared.Payment.{Payment}
-use Rattle.rules.specs.Said.{answers}
 use Rattle.rules.specs.Pay.{factor, weighted, composite, final_pay, payment}
 use Rattle.rules.specs.Entries.{pay_says}
 use Rattle.laws.proofs.Ruled.{ruled_answers}
@@ -42,8 +42,8 @@ final_pay_is_not_lower {price = negsuc p} h k low = absurd h.le
 pub pay_is_not_lower :
     (vma voids density vma' voids' density' price quantity : ℤ) (a b : Payment) →
     vma ≤ℤ vma' → voids ≤ℤ voids' → density ≤ℤ density' →
-    pay_says vma voids density price quantity ≡ answers a →
-    pay_says vma' voids' density' price quantity ≡ answers b →
+    pay_says vma voids density price quantity ≡ Ok a →
+    pay_says vma' voids' density' price quantity ≡ Ok b →
     (a.composite.0 ≤ℤ b.composite.0) × (a.pay.0 ≤ℤ b.pay.0)
 unfolding pay_says payment
 pay_is_not_lower vma voids density vma' voids' density' price quantity a b h i j e f =

@@ -2,20 +2,19 @@
 use mathlib.Core.Path.{◌≡◌, refl, sym, ap, ◌∙◌}
 use lib.IntN.{ℤ}
 use lib.Signed.{◌≤ℤ◌}
-use Rattle.rules.specs.declared.Limit.{Limit}
+use Rattle.std.specs.Prelude.{Ok}
+use Rattle.rules.specs.Units.{Limit}
 use Rattle.rules.specs.declared.Percentages.{Percentages}
-use Rattle.rules.specs.declared.Evaluation.{Evaluation}
 use Rattle.rules.specs.declared.Payment.{Payment}
-use Rattle.rules.specs.declared.PayAnswer.{PayAnswer}
 use Rattle.rules.specs.declared.host.HostPercentages.{HostPercentages}
 use Rattle.rules.specs.declared.host.HostPayment.{HostPayment}
 use Rattle.rules.specs.Lot.{Lot}
 use Rattle.rules.specs.Table.{Table}
 use Rattle.rules.specs.Percent.{nearest}
 use Rattle.rules.specs.Pay.{factor}
-use Rattle.rules.specs.Answers.{evaluation_said, pay_said}
 use Rattle.rules.specs.Entries.{evaluation_says, bare, pay_says}
 use Rattle.rules.specs.Host.{host_percentages, host_payment}
+use Rattle.rules.specs.Said.{Said}
 use Rattle.laws.specs.Column.{Columns}
 use Rattle.laws.specs.Wider.{with_limits, UpperAsWide, LowerAsWide, HasPwl, Widened}
 use Rattle.laws.specs.Given.{given_percentages}
@@ -30,8 +29,8 @@ use Rattle.laws.proofs.Given.{percentages_given, payment_given}
 pub higher_payment_is_not_lower :
     (which : Characteristic) (pwl higher other another price quantity : ℤ) (a b : Payment) →
     pwl ≤ℤ higher →
-    pay_said (PayAnswer.Answers a) ≡ pay_says_of which pwl other another price quantity →
-    pay_said (PayAnswer.Answers b) ≡ pay_says_of which higher other another price quantity →
+    (Ok a) ≡ pay_says_of which pwl other another price quantity →
+    (Ok b) ≡ pay_says_of which higher other another price quantity →
     (a.composite.0 ≤ℤ b.composite.0) × (a.pay.0 ≤ℤ b.pay.0)
 higher_payment_is_not_lower which pwl higher x y price quantity a b h e f =
     higher_is_not_paid_less which pwl higher x y price quantity a b h (sym e) (sym f)
@@ -42,10 +41,10 @@ module _ (table : Table) (shape : Columns table) where
       (lot : Lot) (upper lower : Limit) (p q : Percentages) →
       (which : Characteristic) (other another price quantity : ℤ) (a b : Payment) →
       UpperAsWide lot.upper upper → LowerAsWide lot.lower lower →
-      evaluation_said (Evaluation.Answers p) ≡ evaluation_says table lot →
-      evaluation_said (Evaluation.Answers q) ≡ evaluation_says table (with_limits upper lower lot) →
-      pay_said (PayAnswer.Answers a) ≡ pay_says_of which p.pwl.0 other another price quantity →
-      pay_said (PayAnswer.Answers b) ≡ pay_says_of which q.pwl.0 other another price quantity →
+      (Ok p) ≡ evaluation_says table lot →
+      (Ok q) ≡ evaluation_says table (with_limits upper lower lot) →
+      (Ok a) ≡ pay_says_of which p.pwl.0 other another price quantity →
+      (Ok b) ≡ pay_says_of which q.pwl.0 other another price quantity →
       (factor p.pwl.0 ≤ℤ factor q.pwl.0) × (a.composite.0 ≤ℤ b.composite.0) × (a.pay.0 ≤ℤ b.pay.0)
   unfolding evaluation_says
   wider_payment_is_not_lower lot upper lower p q which x y price quantity a b above below e f g k =
@@ -54,12 +53,12 @@ module _ (table : Table) (shape : Columns table) where
   -- For the PWLs of two pairs of limits that are both answered, pay answers both times, or gives the same refusal both times.
   pub limits_are_answered_alike :
       (lot : Lot) (upper lower : Limit) (p q : Percentages) →
-      (which : Characteristic) (other another price quantity : ℤ) (r s : PayAnswer) →
-      evaluation_said (Evaluation.Answers p) ≡ evaluation_says table lot →
-      evaluation_said (Evaluation.Answers q) ≡ evaluation_says table (with_limits upper lower lot) →
-      pay_said r ≡ pay_says_of which p.pwl.0 other another price quantity →
-      pay_said s ≡ pay_says_of which q.pwl.0 other another price quantity →
-      bare (pay_said r) ≡ bare (pay_said s)
+      (which : Characteristic) (other another price quantity : ℤ) (r s : Said Payment) →
+      (Ok p) ≡ evaluation_says table lot →
+      (Ok q) ≡ evaluation_says table (with_limits upper lower lot) →
+      r ≡ pay_says_of which p.pwl.0 other another price quantity →
+      s ≡ pay_says_of which q.pwl.0 other another price quantity →
+      bare (r) ≡ bare (s)
   unfolding evaluation_says
   limits_are_answered_alike lot upper lower p q which x y price quantity r s e f g k =
       ap bare g
@@ -76,8 +75,8 @@ module _ (table : Table) (shape : Columns table) where
   pub all_wider_payment_is_not_lower :
       {vma voids density vma' voids' density' : ℤ} (price quantity : ℤ) (a b : Payment) →
       Widened table vma vma' → Widened table voids voids' → Widened table density density' →
-      pay_said (PayAnswer.Answers a) ≡ pay_says vma voids density price quantity →
-      pay_said (PayAnswer.Answers b) ≡ pay_says vma' voids' density' price quantity →
+      (Ok a) ≡ pay_says vma voids density price quantity →
+      (Ok b) ≡ pay_says vma' voids' density' price quantity →
       (a.composite.0 ≤ℤ b.composite.0) × (a.pay.0 ≤ℤ b.pay.0)
   all_wider_payment_is_not_lower price quantity a b h i j e f =
       pay_is_not_lower _ _ _ _ _ _ price quantity a b (widened_is_not_lower h) (widened_is_not_lower i) (widened_is_not_lower j) (sym e) (sym f)

@@ -3,9 +3,10 @@ use mathlib.Core.Path.{◌≡◌, ◌∙◌}
 use mathlib.Core.Bool.{Bool, false, ◌||◌}
 use mathlib.Core.List.{[]}
 use lib.IntN.{ℤ, pos}
+use Rattle.std.specs.Prelude.{Ok, Err}
 use Rattle.rules.specs.declared.Refusal.TheVariants.{Number}
 use Rattle.rules.specs.Units.{hundred_percent}
-use Rattle.rules.specs.Said.{refused, answers, checked}
+use Rattle.rules.specs.Said.{checked}
 use Rattle.rules.specs.Pay.{payment}
 use Rattle.rules.specs.Refusals.{outside, pay_case}
 use Rattle.rules.specs.Meets.{pay_meets}
@@ -32,7 +33,7 @@ module _ (vma voids density price quantity : ℤ) where
         quantity = inside (pos 100000000) quantity all.1;
       }
 
-  pub payable : checked (pay_meets vma voids density price quantity) ≡ answers tt → Payable vma voids density price quantity
+  pub payable : checked (pay_meets vma voids density price quantity) ≡ Ok tt → Payable vma voids density price quantity
   unfolding pay_meets
   payable e = case_passed (none_met (pay_case vma voids density price quantity) [] e).0
 
@@ -41,11 +42,11 @@ module _ (vma voids density price quantity : ℤ) where
   passes h = rw (not_outside h.percents.vma, not_outside h.percents.voids, not_outside h.percents.density, not_outside h.price, not_outside h.quantity)
 
   -- Pay is answered for PWLs from 0 to 10,000, a price from 0 to 10,000,000 and a quantity from 0 to 100,000,000,
-  pub payable_is_paid : Payable vma voids density price quantity → pay_says vma voids density price quantity ≡ answers (payment vma voids density price quantity)
+  pub payable_is_paid : Payable vma voids density price quantity → pay_says vma voids density price quantity ≡ Ok (payment vma voids density price quantity)
   unfolding pay_says pay_meets
   payable_is_paid h = ruled_passed _ _ _ (passes h) ∙ ruled_none _
 
   -- and refused with 9 for any other numbers.
-  pub not_payable_is_refused : ¬ Payable vma voids density price quantity → pay_says vma voids density price quantity ≡ refused Number
+  pub not_payable_is_refused : ¬ Payable vma voids density price quantity → pay_says vma voids density price quantity ≡ Err Number
   unfolding pay_says pay_meets
   not_payable_is_refused h = ruled_refused _ _ _ case_passed h

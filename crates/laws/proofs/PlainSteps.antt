@@ -4,8 +4,9 @@ use mathlib.Core.Bool.{false, not}
 use mathlib.Core.List.{List, [], ◌∷◌, ◌++◌}
 use Prim.Native.Nat.{ℕ}
 use lib.ListN.{length, length-map}
+use Rattle.std.specs.Prelude.{Ok, Err}
 use Rattle.rules.specs.declared.Refusal.{Refusal}
-use Rattle.rules.specs.Said.{Said, refused, answers, ruled}
+use Rattle.rules.specs.Said.{Said, ruled}
 use Rattle.rules.specs.Edition.{number_field}
 use Rattle.rules.specs.Store.{editions, is_store, numbers}
 use Rattle.rules.specs.Refusals.{room_case, sound_case}
@@ -18,7 +19,7 @@ use Rattle.laws.proofs.Stored.{stored_is_listed_last, same_length}
 -- ---- a refusal
 
 -- A refusal changes neither the store, whatever its bytes are, nor the list that is lent.
-pub refused_changes_nothing : (step : Step) (s : List ℕ) (r : Refusal) → store_says step s ≡ refused r → (store_after step s ≡ s) × (store_lent step s ≡ lent_with step)
+pub refused_changes_nothing : (step : Step) (s : List ℕ) (r : Refusal) → store_says step s ≡ Err r → (store_after step s ≡ s) × (store_lent step s ≡ lent_with step)
 unfolding store_says store_after store_lent left_by written
 refused_changes_nothing (storing e) s r h = (ap (λ (said : Said ℕ). left_by said s e) h, refl)
 refused_changes_nothing (finding named) s r h = (refl, refl)
@@ -51,8 +52,8 @@ module _ (s : List ℕ) (p : Plain) (k : Alike s p) where
 
   stored_alike : (e : List ℕ) (said : Said ℕ) → storing_says s e ≡ said → Alike (after_storing s e) (with_last said e p)
   unfolding left_by
-  stored_alike e (refused r) h = rw h k
-  stored_alike e (answers start) h =
+  stored_alike e (Err r) h = rw h k
+  stored_alike e (Ok start) h =
       let last = stored_is_listed_last s e start h in
       record {
         sound = last.1;

@@ -7,26 +7,21 @@ use Prim.Native.Nat.{ℕ}
 use native.Mathlib.Omega.{arith}
 use lib.IntN.{ℤ}
 use lib.ListN.{length, take}
+use Rattle.std.specs.Prelude.{Ok}
 use Rattle.rules.specs.declared.Thousandths.{Thousandths}
-use Rattle.rules.specs.declared.Limit.{Limit}
+use Rattle.rules.specs.Units.{Limit, thousandths}
 use Rattle.rules.specs.declared.Mean.{Mean}
-use Rattle.rules.specs.declared.MeanAnswer.{MeanAnswer}
-use Rattle.rules.specs.declared.DeviationAnswer.{DeviationAnswer}
 use Rattle.rules.specs.declared.Percentages.{Percentages}
-use Rattle.rules.specs.declared.Evaluation.{Evaluation}
 use Rattle.rules.specs.declared.HeldLot.{HeldLot}
 use Rattle.rules.specs.declared.host.HostLot.{HostLot}
 use Rattle.rules.specs.declared.host.HostMean.{HostMean}
 use Rattle.rules.specs.declared.host.HostDeviation.{HostDeviation}
 use Rattle.rules.specs.declared.host.HostPercentages.{HostPercentages}
-use Rattle.rules.specs.Units.{thousandths}
-use Rattle.rules.specs.Said.{answers}
 use Rattle.rules.specs.Lot.{Lot, lot_of, lot_in, places, most}
 use Rattle.rules.specs.Table.{Table, Found, no_store, no_edition, no_column, a_column, has_column, entries}
 use Rattle.rules.specs.Percent.{nearest, sum}
 use Rattle.rules.specs.Meets.{readings_meet}
 use Rattle.rules.specs.Notebook.{lent_limit}
-use Rattle.rules.specs.Answers.{mean_said, deviation_said, evaluation_said}
 use Rattle.rules.specs.Entries.{mean_says, deviation_of, deviation_says, evaluation_says}
 use Rattle.rules.specs.Host.{host_mean, host_deviation, host_percentages, given_lot, held_limit, held_lot}
 use Rattle.laws.specs.Ratio.{Is}
@@ -53,7 +48,7 @@ found_column no_edition e = absurd (let z : ◌≡◌ {A = ℕ} 0 1 = cc in omeg
 found_column no_column e = absurd (let z : ◌≡◌ {A = ℕ} 0 1 = cc in omega arith)
 
 module _ (table : Table) where
-  of_lot : (lot : Lot) (p : Percentages) → Counted lot → evaluation_says table lot ≡ answers p → ByTable table lot.upper lot.lower lot.readings p
+  of_lot : (lot : Lot) (p : Percentages) → Counted lot → evaluation_says table lot ≡ Ok p → ByTable table lot.upper lot.lower lot.readings p
   unfolding evaluation_says
   of_lot lot p counted e =
       let h = answered nearest (table lot.n) lot p e in
@@ -66,13 +61,13 @@ module _ (table : Table) where
   -- of a lent list of readings with two limits
   pub answer_is_published :
       (upper lower : Limit) (xs : List ℤ) (p : Percentages) →
-      evaluation_said (Evaluation.Answers p) ≡ evaluation_says table (lot_of upper lower xs) → ByTable table upper lower xs p
+      (Ok p) ≡ evaluation_says table (lot_of upper lower xs) → ByTable table upper lower xs p
   answer_is_published upper lower xs p e = of_lot (lot_of upper lower xs) p (lot_of_counted upper lower xs) (sym e)
 
   -- of a lot in memory, which has as many places as a lot can hold
   pub held_answer_is_published :
       (held : HeldLot) (p : Percentages) → length held.readings ≡ most →
-      evaluation_said (Evaluation.Answers p) ≡ evaluation_says table (lot_in held) → ByTable table held.upper held.lower (take held.count (places held)) p
+      (Ok p) ≡ evaluation_says table (lot_in held) → ByTable table held.upper held.lower (take held.count (places held)) p
   held_answer_is_published held p size e = of_lot (lot_in held) p (lot_in_counted held size) (sym e)
 
   -- of what C is given for either
@@ -92,7 +87,7 @@ module _ (table : Table) where
 
 -- s is the whole thousandth nearest S, a half going up;
 pub deviation_answer_is_nearest :
-    (xs : List ℤ) (s : Thousandths) → deviation_said (DeviationAnswer.Answers s) ≡ deviation_says xs → HalfUpRoot (published_deviation xs) s.0
+    (xs : List ℤ) (s : Thousandths) → (Ok s) ≡ deviation_says xs → HalfUpRoot (published_deviation xs) s.0
 unfolding deviation_says
 deviation_answer_is_nearest xs s e =
     let r = ruled_answers (readings_meet xs) (thousandths (deviation_of (length xs) xs)) s (sym e) in
@@ -104,7 +99,7 @@ given_deviation_is_nearest xs r e z = deviation_answer_is_nearest xs _ (sym (dev
 
 -- and the mean, as T and n, is not rounded at all.
 pub mean_answer_is_published :
-    (xs : List ℤ) (m : Mean) → mean_said (MeanAnswer.Answers m) ≡ mean_says xs → Is (published_mean xs) m.total.0 m.count
+    (xs : List ℤ) (m : Mean) → (Ok m) ≡ mean_says xs → Is (published_mean xs) m.total.0 m.count
 unfolding mean_says
 mean_answer_is_published xs m e =
     let r = ruled_answers (readings_meet xs) (record { total = thousandths (sum xs); count = length xs }) m (sym e) in

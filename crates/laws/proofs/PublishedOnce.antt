@@ -5,11 +5,10 @@ use mathlib.Core.Logic.{⊎_elim}
 use Prim.Native.Nat.{ℕ}
 use lib.IntN.{ℤ, pos, ◌+ℤ◌, ◌-ℤ◌}
 use lib.Signed.{clash_ℤ}
+use Rattle.std.specs.Prelude.{Some, None}
 use Rattle.integers.proofs.Order.{≤ℤ_total}
-use Rattle.rules.specs.declared.Limit.{Limit}
-use Rattle.rules.specs.declared.Limit.TheVariants.{Absent, At}
+use Rattle.rules.specs.Units.{Limit, hundredths}
 use Rattle.rules.specs.declared.Percentages.{Percentages}
-use Rattle.rules.specs.Units.{hundredths}
 use Rattle.rules.specs.Table.{Table, entry, entries}
 use Rattle.laws.specs.Ratio.{Ratio}
 use Rattle.laws.specs.Root.{Root, BelowZero}
@@ -31,12 +30,12 @@ side_once {column} {beyond} {xs} h k =
 
 module _ (column : List ℕ) (xs : List ℤ) (s r : ℤ) where
   upper_once : (upper : Limit) → UpperAsPublished column upper xs s → UpperAsPublished column upper xs r → s ≡ r
-  upper_once Absent h k = h ∙ sym k
-  upper_once (At u) h k = side_once h k
+  upper_once None h k = h ∙ sym k
+  upper_once (Some u) h k = side_once h k
 
   lower_once : (lower : Limit) → LowerAsPublished column lower xs s → LowerAsPublished column lower xs r → s ≡ r
-  lower_once Absent h k = h ∙ sym k
-  lower_once (At l) h k = side_once h k
+  lower_once None h k = h ∙ sym k
+  lower_once (Some l) h k = side_once h k
 
 pub published_determined : (column : List ℕ) (upper lower : Limit) (xs : List ℤ) (p q : Percentages) → AsPublished column upper lower xs p → AsPublished column upper lower xs q → SamePercentages p q
 published_determined column upper lower xs p q h k =

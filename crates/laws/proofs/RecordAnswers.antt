@@ -4,57 +4,55 @@ use mathlib.Core.Path.{◌≡◌, refl, sym, ap, ◌∙◌}
 use mathlib.Core.List.{List, ◌++◌}
 use Prim.Native.Nat.{ℕ, ◌≤◌}
 use lib.ListN.{length, take, drop}
+use Rattle.std.specs.Prelude.{IsOkAnd, Ok, Err}
 use Rattle.rules.specs.declared.HeldLot.{HeldLot}
-use Rattle.rules.specs.declared.Outcome.{Outcome}
-use Rattle.rules.specs.declared.ReadAnswer.{ReadAnswer}
-use Rattle.rules.specs.declared.WriteAnswer.{WriteAnswer}
-use Rattle.rules.specs.Said.{Said, refused, answers}
+use Rattle.rules.specs.Said.{Said}
 use Rattle.rules.specs.Lot.{Lot, most, lot_in}
-use Rattle.rules.specs.Answers.{outcome_said, ReadSaid, read_said, write_said}
-use Rattle.rules.specs.Entries.{read_says, bare, read_leaves, write_says, after_write}
+use Rattle.rules.specs.Entries.{ReadSaid, read_said, read_says, bare, read_leaves, write_says, after_write}
 use Rattle.laws.specs.Bytes.{Bytes}
-use Rattle.laws.proofs.Answers.{outcome_injective, write_injective}
 use Rattle.laws.proofs.Lots.{lot_in_counted}
 use Rattle.laws.proofs.Returns.{read_is_held, no_two_records, write_reads_back, read_writes_back}
 
 -- A record that is answered was read as the lot that is left in memory.
-pub read_answered : (bs : List ℕ) (r : ReadAnswer) → r.said ≡ Outcome.Answers → read_said r ≡ read_leaves bs → read_says bs ≡ answers (lot_in r.lot)
-read_answered bs r ok e = by (read_says bs) refl
+pub read_answered : (bs : List ℕ) (lot : HeldLot) → read_said (Ok lot) ≡ read_leaves bs → read_says bs ≡ Ok (lot_in lot)
+read_answered bs lot e = by (read_says bs) refl
   where
-    by : (s : Said Lot) → read_says bs ≡ s → read_says bs ≡ answers (lot_in r.lot)
-    by (refused q) f = cc (ap outcome_said ok, ap (λ (x : ReadSaid). x.said) e, ap bare f)
-    by (answers lot) f = f ∙ ap answers (sym (ap (λ (x : ReadSaid). lot_in x.lot) e ∙ read_is_held bs lot f))
+    by : (s : Said Lot) → read_says bs ≡ s → read_says bs ≡ Ok (lot_in lot)
+    by (Err q) f = cc (ap (λ (x : ReadSaid). x.said) e, ap bare f)
+    by (Ok read) f = f ∙ ap Ok (sym (ap (λ (x : ReadSaid). lot_in x.lot) e ∙ read_is_held bs read f))
 
 -- What was written of a lot in memory reads back as the same lot.
 pub written_answer_reads_back :
-    (held : HeldLot) (out after : List ℕ) (size : ℕ) (r : ReadAnswer) →
+    (held : HeldLot) (out after : List ℕ) (size : ℕ) (r : Said HeldLot) →
     length held.readings ≡ most →
-    write_said (WriteAnswer.Answers size) ≡ write_says (lot_in held) out → after ≡ after_write (lot_in held) out →
+    Ok size ≡ write_says (lot_in held) out → after ≡ after_write (lot_in held) out →
     read_said r ≡ read_leaves (take size after) →
-    (r.said ≡ Outcome.Answers) × (lot_in r.lot ≡ lot_in held)
-written_answer_reads_back held out after size r places e f g =
-    let back : read_says (take size after) ≡ answers (lot_in held) = rw f (write_reads_back (lot_in held) out size (lot_in_counted held places) (sym e)) in (
-      outcome_injective r.said Outcome.Answers (ap (λ (x : ReadSaid). x.said) g ∙ ap bare back),
-      ap (λ (x : ReadSaid). lot_in x.lot) g ∙ read_is_held (take size after) (lot_in held) back,
-    )
+    IsOkAnd r (λ lot. lot_in lot ≡ lot_in held)
+written_answer_reads_back held out after size r places e f = by r
+  where
+    back : read_says (take size after) ≡ Ok (lot_in held)
+    back = rw f (write_reads_back (lot_in held) out size (lot_in_counted held places) (sym e))
+
+    by : (r : Said HeldLot) → read_said r ≡ read_leaves (take size after) → IsOkAnd r (λ lot. lot_in lot ≡ lot_in held)
+    by (Err q) g = absurd (let z : ◌≡◌ {A = Said (Unit {0})} (Err q) (Ok tt) = ap (λ (x : ReadSaid). x.said) g ∙ ap bare back in cc)
+    by (Ok lot) g = ap (λ (x : ReadSaid). lot_in x.lot) g ∙ read_is_held (take size after) (lot_in held) back
 
 -- An accepted record, written again into any slice with room for it, is the same bytes, and what stood after them stays.
 pub read_answer_writes_back :
-    (bs out after : List ℕ) (r : ReadAnswer) (w : WriteAnswer) →
+    (bs out after : List ℕ) (lot : HeldLot) (w : Said ℕ) →
     Bytes bs → length bs ≤ length out →
-    r.said ≡ Outcome.Answers → read_said r ≡ read_leaves bs →
-    write_said w ≡ write_says (lot_in r.lot) out → after ≡ after_write (lot_in r.lot) out →
-    (w ≡ WriteAnswer.Answers (length bs)) × (after ≡ bs ++ drop (length bs) out)
-read_answer_writes_back bs out after r w h room ok e f g =
-    let back = read_writes_back bs out (lot_in r.lot) h room (read_answered bs r ok e) in
-    (write_injective w (WriteAnswer.Answers (length bs)) (f ∙ back.0), g ∙ back.1)
+    read_said (Ok lot) ≡ read_leaves bs →
+    w ≡ write_says (lot_in lot) out → after ≡ after_write (lot_in lot) out →
+    (w ≡ Ok (length bs)) × (after ≡ bs ++ drop (length bs) out)
+read_answer_writes_back bs out after lot w h room e f g =
+    let back = read_writes_back bs out (lot_in lot) h room (read_answered bs lot e) in
+    (f ∙ back.0, g ∙ back.1)
 
 -- Two records that are read as one lot are the same bytes.
 pub no_lot_has_two_records :
-    (bs cs : List ℕ) (r q : ReadAnswer) →
+    (bs cs : List ℕ) (lot other : HeldLot) →
     Bytes bs → Bytes cs →
-    r.said ≡ Outcome.Answers → q.said ≡ Outcome.Answers →
-    read_said r ≡ read_leaves bs → read_said q ≡ read_leaves cs →
-    lot_in r.lot ≡ lot_in q.lot → bs ≡ cs
-no_lot_has_two_records bs cs r q h k ok also e f same =
-    no_two_records bs cs (lot_in q.lot) h k (read_answered bs r ok e ∙ ap answers same) (read_answered cs q also f)
+    read_said (Ok lot) ≡ read_leaves bs → read_said (Ok other) ≡ read_leaves cs →
+    lot_in lot ≡ lot_in other → bs ≡ cs
+no_lot_has_two_records bs cs lot other h k e f same =
+    no_two_records bs cs (lot_in other) h k (read_answered bs lot e ∙ ap Ok same) (read_answered cs other f)

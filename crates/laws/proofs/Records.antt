@@ -9,13 +9,12 @@ use lib.Dec.{eqb}
 use lib.IntN.{ℤ}
 use lib.ListN.{length, drop, length-append, length-drop, take-append-drop}
 use lib.Seq.{take-add, take-suc, length-take-le}
+use Rattle.std.specs.Prelude.{Some, None, Ok}
 use mir.Syntax.{w32}
 use Rattle.integers.proofs.Magnitude.{fits_of}
 use Rattle.rules.specs.declared.Thousandths.{Thousandths}
-use Rattle.rules.specs.declared.Limit.{Limit}
-use Rattle.rules.specs.declared.Limit.TheVariants.{Absent, At}
-use Rattle.rules.specs.Units.{in_range}
-use Rattle.rules.specs.Said.{answers, checked}
+use Rattle.rules.specs.Units.{Limit, in_range}
+use Rattle.rules.specs.Said.{checked}
 use Rattle.rules.specs.Lot.{Lot, most}
 use Rattle.rules.specs.Record.{spelled, spell, four, in_four, fours, in_fours, part, length_field, version_field, flags_field, has_upper, has_lower, upper_field, lower_field, n_field, limit_of, head_size, lot_of_record, length_of, bit, limit_bytes, head_of, record_of}
 use Rattle.rules.specs.Refusals.{size_case, version_case, flags_case, record_count_case, out_of_range}
@@ -32,10 +31,10 @@ use Rattle.laws.proofs.Spelled.{spelled_spell, spell_spelled, four_in_four, in_f
 
 pub length_head : (n : ℕ) (upper lower : Limit) → length (head_of n upper lower) ≡ head_size
 unfolding head_of spell
-length_head n Absent Absent = refl
-length_head n Absent (At l) = refl
-length_head n (At u) Absent = refl
-length_head n (At u) (At l) = refl
+length_head n None None = refl
+length_head n None (Some l) = refl
+length_head n (Some u) None = refl
+length_head n (Some u) (Some l) = refl
 
 pub length_record : (lot : Lot) → length (record_of lot) ≡ head_size + 4 * length lot.readings
 unfolding record_of
@@ -44,7 +43,7 @@ length_record lot =
     omega (arith, length-append head (in_fours lot.readings), length_head lot.n lot.upper lot.lower, length_in_fours lot.readings)
 
 -- A limit in range is what its four bytes spell.
-limit_of_its_bytes : (z : Thousandths) → out_of_range (At z) ≡ false → four (in_four z.0) ≡ z.0
+limit_of_its_bytes : (z : Thousandths) → out_of_range (Some z) ≡ false → four (in_four z.0) ≡ z.0
 limit_of_its_bytes z all_in_range =
     let bound = in_range_bound z.0 (not-false (in_range z.0) all_in_range) in
     four_in_four z.0 (fits_of w32 (omega arith))
@@ -58,13 +57,13 @@ module _ (lot : Lot) (size : length lot.readings ≡ lot.n) (ok : LotAccepted lo
       readings = rw (← size) (fours_in_fours lot.readings ok.all_in_range)
 
       by : (upper lower : Limit) → out_of_range upper ≡ false → out_of_range lower ≡ false → lot_of_record (record_of (with_limits upper lower lot)) ≡ with_limits upper lower lot
-      by Absent Absent a b = rw readings
-      by Absent (At l) a b = rw (readings, limit_of_its_bytes l b)
-      by (At u) Absent a b = rw (readings, limit_of_its_bytes u a)
-      by (At u) (At l) a b = rw (readings, limit_of_its_bytes u a, limit_of_its_bytes l b)
+      by None None a b = rw readings
+      by None (Some l) a b = rw (readings, limit_of_its_bytes l b)
+      by (Some u) None a b = rw (readings, limit_of_its_bytes u a)
+      by (Some u) (Some l) a b = rw (readings, limit_of_its_bytes u a, limit_of_its_bytes l b)
 
   -- None of refusals 1 to 4 applies to the lot's record.
-  pub head_passes : checked (head_meets (record_of lot)) ≡ answers tt
+  pub head_passes : checked (head_meets (record_of lot)) ≡ Ok tt
   unfolding record_of head_of spell spelled lot_of_record
   head_passes =
       let bs : List ℕ = record_of lot in
@@ -78,10 +77,10 @@ module _ (lot : Lot) (size : length lot.readings ≡ lot.n) (ok : LotAccepted lo
       ∙ ruled_none tt
     where
       flags : (upper lower : Limit) → (flags_case (record_of (with_limits upper lower lot))).applies ≡ false
-      flags Absent Absent = refl
-      flags Absent (At l) = refl
-      flags (At u) Absent = refl
-      flags (At u) (At l) = refl
+      flags None None = refl
+      flags None (Some l) = refl
+      flags (Some u) None = refl
+      flags (Some u) (Some l) = refl
 
 -- ---- the record of a record's lot
 

@@ -9,8 +9,9 @@ use Prim.Native.Nat.{ℕ, ◌≤◌}
 use native.Mathlib.Omega.{arith}
 use lib.Dec.{T, leb, leb→le}
 use lib.Ieee.Fits.{and_l, and_r}
+use Rattle.std.specs.Prelude.{Ok, Err}
 use Rattle.rules.specs.declared.Refusal.{Refusal}
-use Rattle.rules.specs.Said.{Said, refused, answers, Case, ruled}
+use Rattle.rules.specs.Said.{Said, Case, ruled}
 use Rattle.rules.specs.Refusals.{number_of}
 
 abbrev number : Case → ℕ
@@ -28,14 +29,14 @@ abbrev pub NoneApplies : List Case → Type 0
 NoneApplies cases = (c : Case) → Memᴰ c cases → c.applies ≡ false
 
 abbrev pub FirstGiven : {A : Type 0} → List Case → Said A → Type 0
-FirstGiven cases (refused r) = First r cases
-FirstGiven cases (answers a) = NoneApplies cases
+FirstGiven cases (Err r) = First r cases
+FirstGiven cases (Ok a) = NoneApplies cases
 
 module _ {A : Type 0} where
   -- a case put in front that does not apply changes nothing
   passed : (c : Case) (cs : List Case) → c.applies ≡ false → (s : Said A) → FirstGiven cs s → FirstGiven (c ∷ cs) s
-  passed c cs off (refused r) p = later off p
-  passed c cs off (answers a) p =
+  passed c cs off (Err r) p = later off p
+  passed c cs off (Ok a) p =
       λ d m. ⊎_elim (λ e. ap (λ (x : Case). x.applies) e ∙ off) (λ m'. p d m') (Memᴰ.cases_cons m)
 
   pub first_is_given : (cases : List Case) (a : A) → FirstGiven cases (ruled cases a)
@@ -43,7 +44,7 @@ module _ {A : Type 0} where
   first_is_given [] a = λ c m. absurd (Memᴰ.not-nil m)
   first_is_given (c ∷ cs) a = by c.applies refl (first_is_given cs a)
     where
-      by : (b : Bool) → c.applies ≡ b → FirstGiven cs (ruled cs a) → FirstGiven (c ∷ cs) (cond b (refused c.refusal) (ruled cs a))
+      by : (b : Bool) → c.applies ≡ b → FirstGiven cs (ruled cs a) → FirstGiven (c ∷ cs) (cond b (Err c.refusal) (ruled cs a))
       by true e p = here e refl
       by false e p = passed c cs e (ruled cs a) p
 
@@ -76,12 +77,12 @@ first_is_lowest k (d ∷ cs) r t (later off f) c m on =
 
 -- So such a list says what document 01 asks: of the refusals that apply the one of the lowest number, or values where none applies.
 abbrev pub LowestGiven : {A : Type 0} → List Case → Said A → Type 0
-LowestGiven cases (refused r) = First r cases × Lowest cases r
-LowestGiven cases (answers a) = NoneApplies cases
+LowestGiven cases (Err r) = First r cases × Lowest cases r
+LowestGiven cases (Ok a) = NoneApplies cases
 
 pub lowest : {A : Type 0} (k : ℕ) (cases : List Case) (a : A) → T (rising k cases) → LowestGiven cases (ruled cases a)
 lowest {A} k cases a t = by (ruled cases a) (first_is_given cases a)
   where
     by : (s : Said A) → FirstGiven cases s → LowestGiven cases s
-    by (refused r) f = (f, first_is_lowest k cases r t f)
-    by (answers b) none = none
+    by (Err r) f = (f, first_is_lowest k cases r t f)
+    by (Ok b) none = none

@@ -6,12 +6,12 @@ use native.Mathlib.Omega.{arith}
 use borrow.Author.Tests.{not-false}
 use lib.IntN.{ℤ}
 use lib.ListN.{length}
-use Rattle.rules.specs.declared.Limit.{Limit}
+use Rattle.std.specs.Prelude.{Ok}
+use Rattle.rules.specs.Units.{Limit}
 use Rattle.rules.specs.declared.Percentages.{Percentages}
 use Rattle.rules.specs.declared.Row.{Row}
-use Rattle.rules.specs.declared.RowAnswer.{RowAnswer}
 use Rattle.rules.specs.declared.host.HostRow.{HostRow}
-use Rattle.rules.specs.Said.{answers, checked}
+use Rattle.rules.specs.Said.{checked}
 use Rattle.rules.specs.Lot.{Lot, lot_of}
 use Rattle.rules.specs.Table.{Table, Found, entries}
 use Rattle.rules.specs.Percent.{nearest, sum}
@@ -19,7 +19,6 @@ use Rattle.rules.specs.Record.{fours}
 use Rattle.rules.specs.Refusals.{size_fits, bytes_count_case, store_case}
 use Rattle.rules.specs.Meets.{lot_meets, counted_meets, column_meets, evaluation_meets, row_meets}
 use Rattle.rules.specs.Notebook.{lent_limit, lent_lot, row_of}
-use Rattle.rules.specs.Answers.{row_said}
 use Rattle.rules.specs.Entries.{deviation_of, percentages, evaluated, evaluation_says, row_says}
 use Rattle.rules.specs.Host.{given_row, host_row}
 use Rattle.laws.specs.AsPublished.{RowAsPublished}
@@ -44,7 +43,7 @@ module _ (table : Table) (upper lower : Limit) (bs : List ℕ) where
   xs = fours (length bs / 4) bs
 
   -- A row that is answered is the row of the lot of those numbers, and that lot is not refused a percentage.
-  row_answered : (row : Row) → row_says table upper lower bs ≡ answers row → (checked (by_table table (lot_of upper lower xs)) ≡ answers tt) × (row_of_lot table (lot_of upper lower xs) ≡ row)
+  row_answered : (row : Row) → row_says table upper lower bs ≡ Ok row → (checked (by_table table (lot_of upper lower xs)) ≡ Ok tt) × (row_of_lot table (lot_of upper lower xs) ≡ row)
   unfolding row_says row_meets
   row_answered row e =
       let lot : Lot = lent_lot upper lower bs in
@@ -53,7 +52,7 @@ module _ (table : Table) (upper lower : Limit) (bs : List ℕ) where
       let fits = not-false (size_fits (length bs)) (none_met (bytes_count_case bs) (lot_meets lot ++ column_meets found) (none_met (store_case found) _ r.0).1).0 in
       (sym (fitting_meets upper lower bs table tt fits) ∙ r.0, ap (row_of_lot table) (sym (lent_lot_is_listed upper lower bs)) ∙ r.1)
 
-  pub row_answer_is_published : (row : Row) → row_said (RowAnswer.Answers row) ≡ row_says table upper lower bs → RowAsPublished table upper lower xs row
+  pub row_answer_is_published : (row : Row) → (Ok row) ≡ row_says table upper lower bs → RowAsPublished table upper lower xs row
   unfolding row_of evaluation_says evaluated evaluation_meets
   row_answer_is_published row e =
       let lot : Lot = lot_of upper lower xs in

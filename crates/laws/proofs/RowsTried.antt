@@ -8,9 +8,9 @@ use lib.Dec.{T, leb, eqb, eqb→eq}
 use lib.IntN.{ℤ, pos}
 use lib.ListN.{get_or}
 use lib.Signed.{◌≤ℤ◌, lt_z}
+use Rattle.std.specs.Prelude.{Some, None}
 use Rattle.rules.specs.declared.Totals.{Totals}
-use Rattle.rules.specs.declared.Limit.{Limit}
-use Rattle.rules.specs.declared.Limit.TheVariants.{Absent, At}
+use Rattle.rules.specs.Units.{Limit}
 use Rattle.rules.specs.Table.{last_row}
 use Rattle.rules.specs.Edition.{each}
 use Rattle.rules.specs.Percent.{admits, nearest}
@@ -91,10 +91,10 @@ module _ (n : ℕ) (v d : ℤ) where
 module _ (a : Totals) where
   pub upper_tried_at_most_six : (upper : Limit) → upper_tried a upper ≤ 6
   unfolding upper_tried
-  upper_tried_at_most_six Absent = zero-le
-  upper_tried_at_most_six (At u) = tried_at_most_six a.n _ _
+  upper_tried_at_most_six None = zero-le
+  upper_tried_at_most_six (Some u) = tried_at_most_six a.n _ _
 
   pub lower_tried_at_most_six : (lower : Limit) → lower_tried a lower ≤ 6
   unfolding lower_tried
-  lower_tried_at_most_six Absent = zero-le
-  lower_tried_at_most_six (At l) = tried_at_most_six a.n _ _
+  lower_tried_at_most_six None = zero-le
+  lower_tried_at_most_six (Some l) = tried_at_most_six a.n _ _

@@ -6,14 +6,13 @@ use mathlib.Core.Logic.{◌⊎◌, inl, inr, ⊎_elim, ◌↔◌}
 use Prim.Native.Nat.{ℕ}
 use native.Mathlib.Omega.{arith}
 use lib.IntN.{ℤ, pos}
+use Rattle.std.specs.Prelude.{Ok}
 use Rattle.integers.proofs.Order.{≤ℤ_trans, pos_mono, lt_z_true, lt_lt_z}
 use Rattle.rules.specs.declared.Verdict.{Verdict}
 use Rattle.rules.specs.declared.Verdict.TheVariants.{Accepted, Rejected}
 use Rattle.rules.specs.declared.Payment.{Payment}
-use Rattle.rules.specs.declared.PayAnswer.{PayAnswer}
 use Rattle.rules.specs.Units.{composite_of, cents}
 use Rattle.rules.specs.Pay.{weighted, composite, rejected, verdict, payment}
-use Rattle.rules.specs.Answers.{pay_said}
 use Rattle.rules.specs.Entries.{pay_says}
 use Rattle.laws.specs.Between.{Between}
 use Rattle.laws.specs.Payable.{Payable}
@@ -80,7 +79,7 @@ settled_determined a b c p q r s h k =
 
 -- A payment that a caller gets is what the papers say, and its composite lies in 530 to 1,030.
 pub answer_is_settled :
-    (a b c p q : ℤ) (r : Payment) → pay_said (PayAnswer.Answers r) ≡ pay_says a b c p q →
+    (a b c p q : ℤ) (r : Payment) → (Ok r) ≡ pay_says a b c p q →
     Settled a b c p q r × Between (pos 530) (pos 1030) r.composite.0
 unfolding pay_says payment
 answer_is_settled a b c p q r e =

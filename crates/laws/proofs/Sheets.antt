@@ -8,10 +8,10 @@ use Prim.Native.Nat.{ℕ, zero, suc, ◌+◌, ◌≤◌, ◌<◌}
 use native.Mathlib.Omega.{arith}
 use lib.IntN.{ℤ, pos}
 use lib.ListN.{length, get_or}
+use Rattle.std.specs.Prelude.{Option, Some, None}
 use Rattle.integers.proofs.Ring.{neg_-ℤ}
 use Rattle.rules.specs.declared.Sheet.{Sheet}
 use Rattle.rules.specs.declared.Difference.{Difference}
-use Rattle.rules.specs.declared.Finding.{Finding}
 use Rattle.rules.specs.Sheet.{sheet_numbers, differ, differing, differences, first_of, difference_numbers}
 use Rattle.laws.specs.Sheet.{number_at, DiffersAt, FirstDiffers, Found, InOrder, turned, all_turned}
 use Rattle.laws.proofs.Tests.{at_least_or_below}
@@ -35,9 +35,9 @@ record FirstOf (k : ℕ) (xs ys : List ℤ) (d : Difference) : Type 0 where
   here : Differs k xs ys d
   before : (m : ℕ) → m < here.j → at xs m ≡ at ys m
 
-abbrev FoundIn : ℕ → List ℤ → List ℤ → Finding → Type 0
-FoundIn k xs ys Finding.Accepted = xs ≡ ys
-FoundIn k xs ys (Finding.Differs d) = FirstOf k xs ys d
+abbrev FoundIn : ℕ → List ℤ → List ℤ → Option Difference → Type 0
+FoundIn k xs ys None = xs ≡ ys
+FoundIn k xs ys (Some d) = FirstOf k xs ys d
 
 module _ (k : ℕ) (x y : ℤ) (xs ys : List ℤ) where
   at_head : differ x y ≡ true → Differs k (x ∷ xs) (y ∷ ys) (difference k x y)
@@ -47,10 +47,10 @@ module _ (k : ℕ) (x y : ℤ) (xs ys : List ℤ) where
   later : {d : Difference} → Differs (suc k) xs ys d → Differs k (x ∷ xs) (y ∷ ys) d
   later h = record { j = suc h.j; entry = omega (arith, h.entry); within = omega (arith, h.within); of_first = h.of_first; of_second = h.of_second; differ = h.differ }
 
-  later_found : x ≡ y → (f : Finding) → FoundIn (suc k) xs ys f → FoundIn k (x ∷ xs) (y ∷ ys) f
+  later_found : x ≡ y → (f : Option Difference) → FoundIn (suc k) xs ys f → FoundIn k (x ∷ xs) (y ∷ ys) f
   unfolding later
-  later_found e Finding.Accepted h = ap₂ (λ (z : ℤ) (zs : List ℤ). z ∷ zs) e h
-  later_found e (Finding.Differs d) h = record { here = later h.here; before = before }
+  later_found e None h = ap₂ (λ (z : ℤ) (zs : List ℤ). z ∷ zs) e h
+  later_found e (Some d) h = record { here = later h.here; before = before }
     where
       before : (m : ℕ) → m < suc h.here.j → at (x ∷ xs) m ≡ at (y ∷ ys) m
       before zero less = e
@@ -170,9 +170,9 @@ module _ (a b : Sheet) where
   unfolding differences
   finding_is_found = by (first_of (differences a b)) (found_in 0 (sheet_numbers a) (sheet_numbers b) as_long)
     where
-      by : (f : Finding) → FoundIn 0 (sheet_numbers a) (sheet_numbers b) f → Found a b f
-      by Finding.Accepted h = same_numbers a b h
-      by (Finding.Differs d) h =
+      by : (f : Option Difference) → FoundIn 0 (sheet_numbers a) (sheet_numbers b) f → Found a b f
+      by None h = same_numbers a b h
+      by (Some d) h =
           record { here = differs_at h.here; before = λ m less. h.before m (omega (arith, h.here.entry)) }
 
   -- Every entry that differs is listed with both numbers, and no other;
@@ -201,15 +201,15 @@ module _ (a b : Sheet) where
   not_before : (d e : Difference) → DiffersAt a b d → FirstDiffers a b e → e.entry ≤ d.entry
   not_before d e h first = ⊎_elim (λ up. up) (λ below. absurd (h.differ (sym h.of_first ∙ first.before d.entry below ∙ h.of_second))) (at_least_or_below e.entry d.entry)
 
-  pub found_determined : (f g : Finding) → Found a b f → Found a b g → f ≡ g
-  found_determined Finding.Accepted Finding.Accepted h k = refl
-  found_determined Finding.Accepted (Finding.Differs d) h k = absurd (no_difference h d k.here)
-  found_determined (Finding.Differs d) Finding.Accepted h k = absurd (no_difference k d h.here)
-  found_determined (Finding.Differs d) (Finding.Differs e) h k =
+  pub found_determined : (f g : Option Difference) → Found a b f → Found a b g → f ≡ g
+  found_determined None None h k = refl
+  found_determined None (Some d) h k = absurd (no_difference h d k.here)
+  found_determined (Some d) None h k = absurd (no_difference k d h.here)
+  found_determined (Some d) (Some e) h k =
       let same : d.entry ≡ e.entry = omega (arith, not_before d e h.here k, not_before e d k.here h) in
       let first : d.first ≡ e.first = sym h.here.of_first ∙ ap (number_at a) same ∙ k.here.of_first in
       let second : d.second ≡ e.second = sym h.here.of_second ∙ ap (number_at b) same ∙ k.here.of_second in
-      λ i. Finding.Differs (difference (same i) (first i) (second i))
+      λ i. Some (difference (same i) (first i) (second i))
 
   -- Two sheets are equal exactly when nothing is listed.
   pub equal_exactly_when_none_is_listed : (a ≡ b) ↔ (differences a b ≡ [])

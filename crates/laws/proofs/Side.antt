@@ -7,12 +7,11 @@ use lib.Signed.{◌<ℤ◌, le_z, lt_z}
 use Prim.Native.Nat.{ℕ, ◌≤◌, zero-le}
 use native.Mathlib.Nat.{le_refl}
 use native.Mathlib.Omega.{arith}
+use Rattle.std.specs.Prelude.{Some, None}
 use Rattle.integers.proofs.Difference.{nat, diff_le, ◌⊖◌}
 use Rattle.integers.proofs.Order.{pos_mono, lt_z_true}
-use Rattle.rules.specs.declared.Limit.{Limit}
-use Rattle.rules.specs.declared.Limit.TheVariants.{Absent, At}
+use Rattle.rules.specs.Units.{Limit, hundred_percent}
 use Rattle.rules.specs.declared.Totals.{Totals}
-use Rattle.rules.specs.Units.{hundred_percent}
 use Rattle.rules.specs.Table.{entry, last_row}
 use Rattle.rules.specs.Percent.{Rule, spread, upper_distance, lower_distance, side, upper_side, lower_side}
 use Rattle.laws.specs.Column.{Column}
@@ -77,10 +76,10 @@ module _ (rule : Rule) (column : List ℕ) (n : ℕ) (v d : ℤ) where
 module _ (rule : Rule) (column : List ℕ) (a : Totals) (rows : (v d : ℤ) → pos 0 <ℤ v → rule a.n v d ≤ last_row) (shape : Column column) where
   pub upper_side_in_percent : (upper : Limit) → InPercent (upper_side rule column a upper)
   unfolding upper_side
-  upper_side_in_percent Absent = number_in_percent 10000 (le_refl 10000)
-  upper_side_in_percent (At u) = side_in_percent rule column a.n (spread a) (upper_distance a u.0) (rows _ _) shape
+  upper_side_in_percent None = number_in_percent 10000 (le_refl 10000)
+  upper_side_in_percent (Some u) = side_in_percent rule column a.n (spread a) (upper_distance a u.0) (rows _ _) shape
 
   pub lower_side_in_percent : (lower : Limit) → InPercent (lower_side rule column a lower)
   unfolding lower_side
-  lower_side_in_percent Absent = number_in_percent 10000 (le_refl 10000)
-  lower_side_in_percent (At l) = side_in_percent rule column a.n (spread a) (lower_distance a l.0) (rows _ _) shape
+  lower_side_in_percent None = number_in_percent 10000 (le_refl 10000)
+  lower_side_in_percent (Some l) = side_in_percent rule column a.n (spread a) (lower_distance a l.0) (rows _ _) shape

@@ -10,8 +10,9 @@ use lib.IntN.{ℤ}
 use lib.ListN.{length, get_or, take, drop, set, length-drop, take-append-drop}
 use lib.Seq.{length-take-le, take_all, drop-cons, drop-drop, take-add, sets-eq}
 use mir.Facts.{to_z-of_z, of_z-to_z, Fits-of_z}
-use mir.Syntax.{w32}
+use mir.Syntax.{w16, w32}
 use mir.Val.{SFits, to_z, of_z}
+use Rattle.std.specs.Int.{to_be_bytes, from_be_bytes}
 use Rattle.integers.proofs.Magnitude.{fits_of}
 use Rattle.rules.specs.Record.{spelled, spell, four, in_four, fours, in_fours, part}
 use Rattle.rules.specs.Refusals.{any_out}
@@ -54,6 +55,24 @@ spell_spelled bs = spell_spelled_after 0 bs
 -- k bytes spell a number below 256^k.
 spelled_below : (bs : List ℕ) → Bytes bs → spelled 0 bs < 256 ^ length bs
 spelled_below bs h = omega (arith, rw (spelled_before 0 bs h) at (lt-div-mul-add {a = spelled 0 bs} (one-le-pow (length bs) 256 (omega arith))))
+
+-- ---- two and four bytes, as the methods of u16 and u32 write and read them
+
+pub to_be_bytes_two : (x : ℕ) → to_be_bytes w16 x ≡ spell 2 x
+unfolding spell
+to_be_bytes_two x = simp div-one
+
+pub to_be_bytes_four : (x : ℕ) → to_be_bytes w32 x ≡ spell 4 x
+unfolding spell
+to_be_bytes_four x = simp div-one
+
+pub from_be_bytes_two : (a b : ℕ) → from_be_bytes w16 (a ∷ b ∷ []) ≡ spelled 0 (a ∷ b ∷ [])
+unfolding spelled
+from_be_bytes_two a b = omega arith
+
+pub from_be_bytes_four : (a b c d : ℕ) → from_be_bytes w32 (a ∷ b ∷ c ∷ d ∷ []) ≡ spelled 0 (a ∷ b ∷ c ∷ d ∷ [])
+unfolding spelled
+from_be_bytes_four a b c d = omega arith
 
 -- ---- four bytes, two's complement
 
@@ -122,6 +141,16 @@ part_two bs i h = simp (towards_suc, drop-cons bs i 0 (omega arith), drop-cons b
 
 pub part_four : (bs : List ℕ) (i : ℕ) → i + 4 ≤ length bs → part i 4 bs ≡ get_or bs i 0 ∷ get_or bs (i + 1) 0 ∷ get_or bs (i + 2) 0 ∷ get_or bs (i + 3) 0 ∷ []
 part_four bs i h = cc (take-add 2 2 (drop i bs), drop-drop 2 i bs, add_assoc i 2 1, part_two bs i (omega arith), part_two bs (i + 2) (omega arith))
+
+-- Two bytes from a place on, read so, are the number that they spell; and so are four.
+pub two_read : (bs : List ℕ) (i : ℕ) → i + 2 ≤ length bs → from_be_bytes w16 (get_or bs i 0 ∷ get_or bs (i + 1) 0 ∷ []) ≡ spelled 0 (part i 2 bs)
+two_read bs i h = from_be_bytes_two (get_or bs i 0) (get_or bs (i + 1) 0) ∙ sym (ap (spelled 0) (part_two bs i h))
+
+pub four_read :
+    (bs : List ℕ) (i : ℕ) → i + 4 ≤ length bs →
+    from_be_bytes w32 (get_or bs i 0 ∷ get_or bs (i + 1) 0 ∷ get_or bs (i + 2) 0 ∷ get_or bs (i + 3) 0 ∷ []) ≡ spelled 0 (part i 4 bs)
+four_read bs i h =
+    from_be_bytes_four (get_or bs i 0) (get_or bs (i + 1) 0) (get_or bs (i + 2) 0) (get_or bs (i + 3) 0) ∙ sym (ap (spelled 0) (part_four bs i h))
 
 -- four bytes, one by one
 pub four_bytes : (bs : List ℕ) → length bs ≡ 4 → bs ≡ get_or bs 0 0 ∷ get_or bs 1 0 ∷ get_or bs 2 0 ∷ get_or bs 3 0 ∷ []

@@ -1,15 +1,17 @@
 -- What a walk knows of a store's editions when it is through, and so of the edition that is named.
 use mathlib.Core.Path.{◌≡◌, refl, sym, ap, ◌∙◌}
-use mathlib.Core.Bool.{Bool, true, false, ◌||◌, cond, or-false, or_assoc, false≢true}
+use mathlib.Core.Bool.{Bool, true, false, ◌||◌, cond}
 use mathlib.Core.List.{List, [], ◌∷◌}
 use Prim.Native.Nat.{ℕ, ◌+◌}
 use native.Mathlib.Nat.{add-zero, zero-add, add_assoc}
 use native.Mathlib.Omega.{arith}
 use lib.Dec.{eqb}
 use lib.ListN.{length}
+use Rattle.std.specs.Prelude.{Some, None, Ok, Err}
+use Rattle.rules.specs.declared.Refusal.{Refusal}
+use Rattle.rules.specs.declared.Refusal.TheVariants.{Unsound}
 use Rattle.rules.specs.declared.store.Walked.{Walked}
-use Rattle.rules.specs.declared.store.Walk.{Walk}
-use Rattle.rules.specs.declared.store.Named.{Named}
+use Rattle.rules.specs.Said.{Said}
 use Rattle.rules.specs.Edition.{number_field}
 use Rattle.rules.specs.Store.{editions, is_store, stored, start_in, least_after, size_of}
 use Rattle.laws.specs.StoreWalk.{passed_by, passed_all, none_passed, store_walk, Ends, named_says}
@@ -35,56 +37,53 @@ unfolding passed_all least_after
 all_least named w [] = refl
 all_least named w (e ∷ es) = all_least named (passed_by named w (length e) (number_field e)) es
 
--- It knows whether the one that is named is among them.
-pub all_known : (named : ℕ) (w : Walked) (es : List (List ℕ)) → (passed_all named w es).known ≡ (w.known || stored named es)
-unfolding passed_all stored
-all_known named w [] = sym (or-false w.known)
-all_known named w (e ∷ es) =
-    all_known named (passed_by named w (length e) (number_field e)) es ∙ or_assoc w.known (eqb (number_field e) named) (stored named es)
-
--- a place once known is kept
-start_kept : (named : ℕ) (w : Walked) (es : List (List ℕ)) → w.known ≡ true → (passed_all named w es).start ≡ w.start
+-- A start once known is kept,
+start_kept : (named : ℕ) (w : Walked) (es : List (List ℕ)) (at : ℕ) → w.start ≡ Some at → (passed_all named w es).start ≡ Some at
 unfolding passed_all
-start_kept named w [] h = refl
-start_kept named w (e ∷ es) h = start_kept named (passed_by named w (length e) (number_field e)) es (simp h) ∙ simp h
+start_kept named w [] at h = h
+start_kept named w (e ∷ es) at h = start_kept named (passed_by named w (length e) (number_field e)) es at (simp h)
 
 start_next :
-    (named : ℕ) (w : Walked) (e : List ℕ) (es : List (List ℕ)) (b : Bool) → eqb (number_field e) named ≡ b → w.known ≡ false → (b || stored named es) ≡ true →
-    ((v : Walked) → v.known ≡ false → stored named es ≡ true → (passed_all named v es).start ≡ v.end + start_in named es) →
-    (passed_all named (passed_by named w (length e) (number_field e)) es).start ≡ w.end + cond b 0 (length e + start_in named es)
-start_next named w e es true is h s more =
-    start_kept named (passed_by named w (length e) (number_field e)) es (simp (h, is)) ∙ simp (h, is, add-zero)
-start_next named w e es false is h s more =
-    more (passed_by named w (length e) (number_field e)) (simp (h, is)) s ∙ add_assoc w.end (length e) (start_in named es)
+    (named : ℕ) (w : Walked) (e : List ℕ) (es : List (List ℕ)) (b : Bool) → eqb (number_field e) named ≡ b → w.start ≡ None →
+    ((v : Walked) → v.start ≡ None → (passed_all named v es).start ≡ cond (stored named es) (Some (v.end + start_in named es)) None) →
+    (passed_all named (passed_by named w (length e) (number_field e)) es).start ≡
+    cond (b || stored named es) (Some (w.end + cond b 0 (length e + start_in named es))) None
+start_next named w e es true is h more =
+    start_kept named (passed_by named w (length e) (number_field e)) es w.end (simp (h, is)) ∙ simp add-zero
+start_next named w e es false is h more =
+    more (passed_by named w (length e) (number_field e)) (simp (h, is))
+    ∙ ap (λ (at : ℕ). cond (stored named es) (Some at) None) (add_assoc w.end (length e) (start_in named es))
 
--- And where that one starts.
-pub all_start : (named : ℕ) (w : Walked) (es : List (List ℕ)) → w.known ≡ false → stored named es ≡ true → (passed_all named w es).start ≡ w.end + start_in named es
+-- and it is known where the edition that is named is among them.
+pub all_start :
+    (named : ℕ) (w : Walked) (es : List (List ℕ)) → w.start ≡ None →
+    (passed_all named w es).start ≡ cond (stored named es) (Some (w.end + start_in named es)) None
 unfolding passed_all stored start_in
-all_start named w [] h s = absurd (false≢true s)
-all_start named w (e ∷ es) h s = start_next named w e es (eqb (number_field e) named) refl h s (λ v. all_start named v es)
+all_start named w [] h = h
+all_start named w (e ∷ es) h = start_next named w e es (eqb (number_field e) named) refl h (λ v. all_start named v es)
 
 -- ---- what is said of the whole
 
 -- Where a walk is through, the buffer is a store, and it knows what all the editions say.
-pub walked_store : (named : ℕ) (s : List ℕ) (w : Walked) → Walk.Store w ≡ store_walk named s → (is_store s ≡ true) × (w ≡ passed_all named none_passed (editions s))
+pub walked_store : (named : ℕ) (s : List ℕ) (w : Walked) → Ok w ≡ store_walk named s → (is_store s ≡ true) × (w ≡ passed_all named none_passed (editions s))
 unfolding store_walk
 walked_store named s w = by (is_store s) (passed_all named none_passed (editions s))
   where
-    by : (b : Bool) (v : Walked) → Walk.Store w ≡ cond b (Walk.Store v) Walk.Unsound → (b ≡ true) × (w ≡ v)
+    by : (b : Bool) (v : Walked) → Ok w ≡ cond b (Ok v) (Err Unsound) → (b ≡ true) × (w ≡ v)
     by true v h = (refl, cc)
     by false v h = (cc, cc)
 
--- Where it is not, the buffer is no store.
-pub walked_unsound : (named : ℕ) (s : List ℕ) → Walk.Unsound ≡ store_walk named s → is_store s ≡ false
+-- Where it is not, the buffer is no store, and that is the refusal.
+pub walked_unsound : (named : ℕ) (s : List ℕ) {r : Refusal} → Err r ≡ store_walk named s → (is_store s ≡ false) × (r ≡ Unsound)
 unfolding store_walk
 walked_unsound named s = by (is_store s) (passed_all named none_passed (editions s))
   where
-    by : (b : Bool) (v : Walked) → Walk.Unsound ≡ cond b (Walk.Store v) Walk.Unsound → b ≡ false
-    by true v h = cc
-    by false v h = refl
+    by : (b : Bool) (v : Walked) {r : Refusal} → Err r ≡ cond b (Ok v) (Err Unsound) → (b ≡ false) × (r ≡ Unsound)
+    by true v h = (cc, cc)
+    by false v h = (refl, cc)
 
 -- What a walk knows when it is through: where the store ends, how many editions there are, and the least number that may follow.
-pub ends_known : (named : ℕ) (s : List ℕ) (w : Walked) → Walk.Store w ≡ store_walk named s → Ends s w
+pub ends_known : (named : ℕ) (s : List ℕ) (w : Walked) → Ok w ≡ store_walk named s → Ends s w
 ends_known named s w h =
     let told = walked_store named s w h in
     let end_is : w.end ≡ size_of (editions s) = ap (λ (v : Walked). v.end) told.1 ∙ all_end named none_passed (editions s) ∙ zero-add (size_of (editions s)) in
@@ -98,28 +97,25 @@ ends_known named s w h =
       least_is = ap (λ (v : Walked). v.least) told.1 ∙ all_least named none_passed (editions s);
     }
 
+-- The same of an answer that a walk gave.
+pub walk_ends_known : (named : ℕ) (s : List ℕ) {said : Said Walked} {w : Walked} → said ≡ store_walk named s → said ≡ Ok w → Ends s w
+walk_ends_known named s e h = ends_known named s _ (sym h ∙ e)
+
+pub walk_is_unsound : (named : ℕ) (s : List ℕ) {said : Said Walked} {r : Refusal} → said ≡ store_walk named s → said ≡ Err r → (is_store s ≡ false) × (r ≡ Unsound)
+walk_is_unsound named s e h = walked_unsound named s (sym h ∙ e)
+
 -- ---- the edition that is named
 
 module _ (named : ℕ) (s : List ℕ) where
   -- Where the walk finds no store, that is said.
-  pub named_unsound : Walk.Unsound ≡ store_walk named s → Named.Unsound ≡ named_says named s
+  pub named_unsound : {r : Refusal} → Err r ≡ store_walk named s → Err r ≡ named_says named s
   unfolding named_says
-  named_unsound h = simp (walked_unsound named s h)
+  named_unsound h = let told = walked_unsound named s h in ap Err told.1 ∙ simp told.0
 
-  module _ (w : Walked) (h : Walk.Store w ≡ store_walk named s) where
-    known_is : w.known ≡ stored named (editions s)
-    known_is = ap (λ (v : Walked). v.known) (walked_store named s w h).1 ∙ all_known named none_passed (editions s)
-
-    -- Where it has not met the number that is named, there is no such edition.
-    pub named_unknown : w.known ≡ false → Named.Unknown ≡ named_says named s
-    unfolding named_says
-    named_unknown k = simp ((walked_store named s w h).0, sym known_is ∙ k)
-
-    -- Where it has, it knows the place at which that edition starts.
-    pub named_starts : w.known ≡ true → Named.Starts w.start ≡ named_says named s
-    unfolding named_says
-    named_starts k =
-        let told = walked_store named s w h in
-        let is_stored : stored named (editions s) ≡ true = sym known_is ∙ k in
-        simp (told.0, is_stored)
-        (ap Named.Starts (ap (λ (v : Walked). v.start) told.1 ∙ all_start named none_passed (editions s) refl is_stored ∙ zero-add (start_in named (editions s))))
+  -- Else it is the start that the walk knows, if it knows one.
+  pub named_known : (w : Walked) → Ok w ≡ store_walk named s → Ok w.start ≡ named_says named s
+  unfolding named_says
+  named_known w h =
+      let told = walked_store named s w h in
+      simp told.0
+      (ap Ok (ap (λ (v : Walked). v.start) told.1 ∙ all_start named none_passed (editions s) refl ∙ simp zero-add))

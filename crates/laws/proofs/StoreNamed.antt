@@ -8,11 +8,13 @@ use borrow.Author.Tests.{eqb-true, leb-true}
 use lib.Dec.{leb, eqb}
 use lib.ListN.{length, drop, length-append, length-take}
 use lib.Seq.{drop-drop, drop-append-add}
-use Rattle.rules.specs.declared.store.Named.{Named}
+use Rattle.std.specs.Prelude.{Ok, Some, Option, None, Err}
+use Rattle.rules.specs.declared.Refusal.TheVariants.{Unsound}
 use Rattle.rules.specs.Record.{length_field}
 use Rattle.rules.specs.Table.{Found, no_store, no_edition, a_column, has_column, entries, column_in}
 use Rattle.rules.specs.Edition.{number_field, first_field, last_field, column_size, column_place, column_of, accepted, table_of}
 use Rattle.rules.specs.Store.{first_entry, rising, most_editions, editions, is_store, stored, edition_in, start_in, size_of, table_in}
+use Rattle.rules.specs.Said.{Said}
 use Rattle.laws.specs.Column.{Column, Columns}
 use Rattle.laws.specs.StoreWalk.{named_says, EditionAt, NamedIn, table_at}
 use Rattle.laws.proofs.ColumnIn.{column_of_part}
@@ -79,12 +81,12 @@ named_in named s = by (is_store s) (stored named (editions s)) refl refl
   where
     by :
         (a b : Bool) → is_store s ≡ a → stored named (editions s) ≡ b →
-        NamedIn s (cond a (cond b (Named.Starts (start_in named (editions s))) Named.Unknown) Named.Unsound)
+        NamedIn s (cond a (Ok (cond b (Some (start_in named (editions s))) None)) (Err Unsound))
     by true true t h =
         let l = lies named s t h in
         record { taken = ap accepted l.same ∙ l.taken; within = omega (arith, l.within, ap length l.same) }
     by true false t h = tt
-    by false b t h = tt
+    by false b t h = refl
 
 -- The table found so is the table that the store has under that number.
 pub table_named : (named : ℕ) (s : List ℕ) → table_at (named_says named s) s ≡ table_in s named
@@ -93,7 +95,7 @@ table_named named s = λ i n. by n (is_store s) (stored named (editions s)) refl
   where
     by :
         (n : ℕ) (a b : Bool) → is_store s ≡ a → stored named (editions s) ≡ b →
-        table_at (cond a (cond b (Named.Starts (start_in named (editions s))) Named.Unknown) Named.Unsound) s n ≡
+        table_at (cond a (Ok (cond b (Some (start_in named (editions s))) None)) (Err Unsound)) s n ≡
         cond a (cond b (table_of (edition_in named (editions s)) n) no_edition) no_store
     by n true true t h = ap (λ (e : List ℕ). table_of e n) (lies named s t h).same
     by n true false t h = refl
@@ -125,10 +127,10 @@ named_columns s start k n h =
     let cut : place + column_size ≤ 2 + length_field rest = omega (arith, length-take (2 + length_field rest) rest) in
     (omega arith, has.2 ∙ ap a_column (column_of_part (2 + length_field rest) rest place cut ∙ ap column_in (drop-drop place start s)))
 
-pub at_columns : (s : List ℕ) (named : Named) → NamedIn s named → Columns (table_at named s)
-at_columns s Named.Unsound k n h = absurd (false≢true h)
-at_columns s Named.Unknown k n h = absurd (false≢true h)
-at_columns s (Named.Starts start) k n h =
+pub at_columns : (s : List ℕ) (named : Said (Option ℕ)) → NamedIn s named → Columns (table_at named s)
+at_columns s (Err r) k n h = absurd (false≢true h)
+at_columns s (Ok None) k n h = absurd (false≢true h)
+at_columns s (Ok (Some start)) k n h =
     let e : List ℕ = first_entry (drop start s) in
     let has = has_is e n h in
     subst (λ (f : Found). Column (entries f)) (sym has.2) (edition_column e (rw k.taken tt) n has.0 has.1)

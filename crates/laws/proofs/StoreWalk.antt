@@ -8,9 +8,12 @@ use borrow.Author.Tests.{le-leb, lt-leb}
 use lib.Dec.{leb}
 use lib.ListN.{length, drop, length-drop}
 use lib.Seq.{take_all, length-take-le, drop-drop}
-use Rattle.rules.specs.declared.store.Front.{Front}
+use Rattle.std.specs.Prelude.{Option, Some, None, Ok, Err}
+use Rattle.rules.specs.declared.Refusal.{Refusal}
+use Rattle.rules.specs.declared.Refusal.TheVariants.{Unsound}
+use Rattle.rules.specs.declared.store.Entry.{Entry}
 use Rattle.rules.specs.declared.store.Walked.{Walked}
-use Rattle.rules.specs.declared.store.Walk.{Walk}
+use Rattle.rules.specs.Said.{Said}
 use Rattle.rules.specs.Record.{length_field}
 use Rattle.rules.specs.Edition.{number_field, accepted}
 use Rattle.rules.specs.Store.{ends, first_entry, after_first, entries_in, rising, most_editions}
@@ -21,6 +24,10 @@ use Rattle.laws.proofs.StoreEntry.{first_within}
 
 -- ---- what stands at the front
 
+-- an edition's entry, by its size and its number
+abbrev pub edition_front : ℕ → ℕ → Said (Option Entry)
+edition_front size number = Ok (Some (record { size = size; number = number }))
+
 -- An entry that runs past the bytes is not accepted.
 pub cut_short : (bs : List ℕ) → length bs < 2 + length_field bs → 2 ≤ length bs → accepted (first_entry bs) ≡ false
 unfolding first_entry
@@ -29,59 +36,61 @@ cut_short bs h two =
 
 module _ (least : ℕ) (bs : List ℕ) where
   -- The front is an end, where the entries end.
-  pub front_end : ends bs ≡ true → Front.End ≡ front_of least bs
+  pub front_end : ends bs ≡ true → Ok None ≡ front_of least bs
   unfolding front_of
   front_end h = simp h
 
   -- It is damaged, where the entry is not accepted,
-  pub front_refused : ends bs ≡ false → accepted (first_entry bs) ≡ false → Front.Damaged ≡ front_of least bs
+  pub front_refused : ends bs ≡ false → accepted (first_entry bs) ≡ false → Err Unsound ≡ front_of least bs
   unfolding front_of
   front_refused h a = simp (h, a)
 
   -- or where its number is below the least that may follow.
-  pub front_low : ends bs ≡ false → number_field (first_entry bs) < least → Front.Damaged ≡ front_of least bs
+  pub front_low : ends bs ≡ false → number_field (first_entry bs) < least → Err Unsound ≡ front_of least bs
   unfolding front_of
   front_low h low = simp (h, lt-leb _ _ low, and-false)
 
   -- Else it is an edition, with its size and its number.
   pub front_edition :
       ends bs ≡ false → 2 + length_field bs ≤ length bs → accepted (first_entry bs) ≡ true → least ≤ number_field (first_entry bs) →
-      Front.Edition (2 + length_field bs) (number_field (first_entry bs)) ≡ front_of least bs
+      edition_front (2 + length_field bs) (number_field (first_entry bs)) ≡ front_of least bs
   unfolding front_of first_entry
   front_edition h fits a high = simp (h, a, le-leb _ _ high, length-take-le (2 + length_field bs) bs fits)
 
   abbrev passes : Bool
   passes = accepted (first_entry bs) && leb least (number_field (first_entry bs))
 
-  front_is_end : Front.End ≡ front_of least bs → ends bs ≡ true
+  front_is_end : Ok None ≡ front_of least bs → ends bs ≡ true
   unfolding front_of
   front_is_end = by (ends bs) passes (length (first_entry bs)) (number_field (first_entry bs))
     where
-      by : (e a : Bool) (size number : ℕ) → Front.End ≡ cond e Front.End (cond a (Front.Edition size number) Front.Damaged) → e ≡ true
+      by : (e a : Bool) (size number : ℕ) → Ok None ≡ cond e (Ok None) (cond a (edition_front size number) (Err Unsound)) → e ≡ true
       by true a size number h = refl
       by false true size number h = cc
       by false false size number h = cc
 
-  front_is_damaged : Front.Damaged ≡ front_of least bs → (ends bs ≡ false) × (passes ≡ false)
+  front_is_damaged : {r : Refusal} → Err r ≡ front_of least bs → (ends bs ≡ false) × (passes ≡ false) × (r ≡ Unsound)
   unfolding front_of
   front_is_damaged = by (ends bs) passes (length (first_entry bs)) (number_field (first_entry bs))
     where
-      by : (e a : Bool) (size number : ℕ) → Front.Damaged ≡ cond e Front.End (cond a (Front.Edition size number) Front.Damaged) →
-          (e ≡ false) × (a ≡ false)
-      by true a size number h = (cc, cc)
-      by false true size number h = (cc, cc)
-      by false false size number h = (refl, refl)
+      by : (e a : Bool) (size number : ℕ) {r : Refusal} → Err r ≡ cond e (Ok None) (cond a (edition_front size number) (Err Unsound)) →
+          (e ≡ false) × (a ≡ false) × (r ≡ Unsound)
+      by true a size number h = (cc, cc, cc)
+      by false true size number h = (cc, cc, cc)
+      by false false size number h = (refl, refl, cc)
 
   front_is_edition :
-      (m n : ℕ) → Front.Edition m n ≡ front_of least bs →
+      (m n : ℕ) → edition_front m n ≡ front_of least bs →
       (ends bs ≡ false) × (passes ≡ true) × (m ≡ length (first_entry bs)) × (n ≡ number_field (first_entry bs))
   unfolding front_of
   front_is_edition = by (ends bs) passes (length (first_entry bs)) (number_field (first_entry bs))
     where
-      by : (e a : Bool) (size number m n : ℕ) → Front.Edition m n ≡ cond e Front.End (cond a (Front.Edition size number) Front.Damaged) →
+      by : (e a : Bool) (size number m n : ℕ) → edition_front m n ≡ cond e (Ok None) (cond a (edition_front size number) (Err Unsound)) →
           (e ≡ false) × (a ≡ true) × (m ≡ size) × (n ≡ number)
       by true a size number m n h = (cc, cc, cc, cc)
-      by false true size number m n h = (refl, refl, cc, cc)
+      by false true size number m n h =
+          let same : ◌≡◌ {A = Entry} (record { size = m; number = n }) (record { size = size; number = number }) = cc in
+          (refl, refl, ap (λ (e : Entry). e.size) same, ap (λ (e : Entry). e.number) same)
       by false false size number m n h = (cc, cc, cc, cc)
 
 -- ---- what a walk keeps
@@ -104,23 +113,24 @@ module _ (named : ℕ) (s : List ℕ) where
     room_left = most_editions - w.count
 
     -- At the end the buffer is a store, and what is known of the editions passed is known of all.
-    pub kept_end : Front.End ≡ front_of w.least left → Walk.Store w ≡ store_walk named s
+    pub kept_end : Ok None ≡ front_of w.least left → Ok w ≡ store_walk named s
     unfolding store_walk passed_all rising
     kept_end h = simp (k.as_store, k.as_list, entries_end (suc room_left) left (front_is_end w.least left h))
 
     -- At an entry that is none of a store the buffer is no store.
-    pub kept_damaged : Front.Damaged ≡ front_of w.least left → Walk.Unsound ≡ store_walk named s
+    pub kept_damaged : {r : Refusal} → Err r ≡ front_of w.least left → Err r ≡ store_walk named s
     unfolding store_walk
     kept_damaged h =
         let e = front_is_damaged w.least left h in
-        simp (
+        ap Err e.2
+        ∙ simp (
           k.as_store,
           entries_next room_left left e.0,
           rising_damaged room_left w.least (first_entry left) (entries_in room_left (after_first left)) e.1,
         )
 
     -- At a ninth edition the buffer is no store.
-    pub kept_ninth : (size number : ℕ) → Front.Edition size number ≡ front_of w.least left → w.count ≡ most_editions → Walk.Unsound ≡ store_walk named s
+    pub kept_ninth : (size number : ℕ) → edition_front size number ≡ front_of w.least left → w.count ≡ most_editions → Err Unsound ≡ store_walk named s
     unfolding store_walk rising
     kept_ninth size number h full =
         let e = front_is_edition w.least left size number h in
@@ -128,7 +138,7 @@ module _ (named : ℕ) (s : List ℕ) where
         simp (k.as_store, none, entries_next 0 left e.0)
 
     -- An edition more is passed.
-    pub kept_next : (size number : ℕ) → Front.Edition size number ≡ front_of w.least left → w.count < most_editions → Kept named s (passed_by named w size number)
+    pub kept_next : (size number : ℕ) → edition_front size number ≡ front_of w.least left → w.count < most_editions → Kept named s (passed_by named w size number)
     unfolding passed_all after_first rising
     kept_next size number h room =
         let e = front_is_edition w.least left size number h in

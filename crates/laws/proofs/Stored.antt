@@ -9,7 +9,8 @@ use borrow.Author.Tests.{ltb-false, leb-false, leb-true, eq-eqb, ne_eqb, not-fal
 use lib.Dec.{ltb}
 use lib.ListN.{length, take, drop, length-append, length-drop}
 use lib.Seq.{length-take-le}
-use Rattle.rules.specs.Said.{Said, answers}
+use Rattle.std.specs.Prelude.{Ok}
+use Rattle.rules.specs.Said.{Said}
 use Rattle.rules.specs.Edition.{number_field, accepted}
 use Rattle.rules.specs.Store.{rising, most_editions, editions, is_store, stored, start_in, least_after, size_of, closed, stored_at}
 use Rattle.rules.specs.Refusals.{room_case, sound_case, accepted_case, rising_case, ninth_case, named_case}
@@ -61,7 +62,7 @@ start_last (suc room) least (d ∷ es) e r high =
     let other = ne_eqb (number_field d) (number_field e) (λ same. omega (arith, least_grows room (number_field d + 1) es rest)) in
     simp other (ap (λ (n : ℕ). length d + n) (start_last room (number_field d + 1) es e rest high))
 
-module _ (s e : List ℕ) (start : ℕ) (h : storing_says s e ≡ answers start) where
+module _ (s e : List ℕ) (start : ℕ) (h : storing_says s e ≡ Ok start) where
   storable : Storable s e start
   unfolding storing_says storing_meets
   storable =
@@ -113,7 +114,7 @@ module _ (s e : List ℕ) (start : ℕ) (h : storing_says s e ≡ answers start)
       ∙ omega (arith, storable.room, length-append (take at s ++ e) (closed tail), length-append (take at s) e, length-take-le at s inside, length_closed tail, length-drop (at + length e) s)
 
   -- It is found under its own number, at the place that was answered.
-  pub stored_is_found : finding_says (after_storing s e) (number_field e) ≡ answers start
+  pub stored_is_found : finding_says (after_storing s e) (number_field e) ≡ Ok start
   unfolding finding_says
   stored_is_found =
       let s' : List ℕ = after_storing s e in
@@ -121,4 +122,4 @@ module _ (s e : List ℕ) (start : ℕ) (h : storing_says s e ≡ answers start)
       ruled_passed (sound_case s') _ _ (ap not stored_is_listed_last.1)
       ∙ ruled_passed (named_case (number_field e) s') _ _ (ap not there)
       ∙ ruled_none _
-      ∙ ap answers (ap (start_in (number_field e)) last_is ∙ start_last most_editions 0 (editions s) e storable.sound storable.high ∙ storable.start_is)
+      ∙ ap Ok (ap (start_in (number_field e)) last_is ∙ start_last most_editions 0 (editions s) e storable.sound storable.high ∙ storable.start_is)

@@ -5,15 +5,15 @@ use mathlib.Core.List.{[], ◌∷◌}
 use native.Mathlib.Omega.{arith}
 use lib.IntN.{ℤ, pos}
 use lib.Signed.{lt_z}
+use Rattle.std.specs.Prelude.{Ok}
 use Rattle.integers.proofs.Difference.{var, nat, diff_le, ◌⊕◌, ◌⊖◌}
 use Rattle.integers.proofs.Order.{le_lt_z}
 use Rattle.rules.specs.declared.Pair.{Pair}
-use Rattle.rules.specs.declared.MixtureLimits.{MixtureLimits}
-use Rattle.rules.specs.declared.MixtureAnswer.{MixtureAnswer}
+use Rattle.rules.specs.declared.Characteristics.{Characteristics}
+use Rattle.rules.specs.declared.Thousandths.{Thousandths}
 use Rattle.rules.specs.Mixture.{vma_pair, voids_pair, density_pairs, density_pair, limits, mixture_limits}
 use Rattle.rules.specs.Refusals.{pair_out, mixture_case, offset_case}
 use Rattle.rules.specs.Meets.{mixture_meets}
-use Rattle.rules.specs.Answers.{mixture_said}
 use Rattle.rules.specs.Entries.{mixture_says}
 use Rattle.laws.specs.Between.{Between}
 use Rattle.laws.specs.Taken.{Taken}
@@ -22,7 +22,7 @@ use Rattle.laws.proofs.Bounds.{pair_parts, offset_below, offset_above}
 use Rattle.laws.proofs.Between.{inside, one_of_four}
 use Rattle.laws.proofs.Ruled.{ruled_answers, none_met}
 
-taken : (p : Pair) → pair_out p ≡ false → lt_z p.upper p.lower ≡ false → Taken (limits p)
+taken : (p : Pair ℤ) → pair_out p ≡ false → lt_z p.upper p.lower ≡ false → Taken (limits p)
 taken p all_in_range uncrossed =
     let h = pair_parts p all_in_range in
     record { upper_in_range = h.0; lower_in_range = h.1; uncrossed = uncrossed }
@@ -38,7 +38,7 @@ density_taken mixture h =
 
 -- An evaluation takes every pair of limits that a lookup answers.
 pub mixture_limits_are_taken :
-    (mixture minimum target : ℤ) (l : MixtureLimits) → mixture_said (MixtureAnswer.Answers l) ≡ mixture_says mixture minimum target →
+    (mixture minimum target : ℤ) (l : Characteristics (Pair Thousandths)) → (Ok l) ≡ mixture_says mixture minimum target →
     Taken l.vma × Taken l.voids × Taken l.density
 unfolding mixture_says mixture_meets mixture_limits
 mixture_limits_are_taken mixture minimum target l e =

@@ -6,19 +6,18 @@ use Prim.Native.Nat.{ℕ, ◌≤◌, zero-le}
 use native.Mathlib.Omega.{arith}
 use lib.IntN.{ℤ}
 use lib.ListN.{length, take}
+use Rattle.std.specs.Prelude.{Ok, Err}
 use Rattle.rules.specs.declared.Totals.{Totals}
-use Rattle.rules.specs.declared.Limit.{Limit}
+use Rattle.rules.specs.Units.{Limit}
 use Rattle.rules.specs.declared.HeldLot.{HeldLot}
 use Rattle.rules.specs.declared.Percentages.{Percentages}
-use Rattle.rules.specs.declared.Evaluation.{Evaluation}
 use Rattle.rules.specs.declared.host.HostLot.{HostLot}
 use Rattle.rules.specs.declared.host.HostPercentages.{HostPercentages}
-use Rattle.rules.specs.Said.{Said, refused, answers}
+use Rattle.rules.specs.Said.{Said}
 use Rattle.rules.specs.Lot.{Lot, lot_of, lot_in, places, most}
 use Rattle.rules.specs.Table.{Table}
 use Rattle.rules.specs.Percent.{nearest, totals}
 use Rattle.rules.specs.Notebook.{lent_limit}
-use Rattle.rules.specs.Answers.{evaluation_said}
 use Rattle.rules.specs.Entries.{percentages_of, evaluation_says}
 use Rattle.rules.specs.Host.{host_percentages, given_lot, held_limit, held_lot}
 use Rattle.laws.specs.Moved.{Counted}
@@ -31,7 +30,7 @@ use Rattle.laws.proofs.RowsTried.{upper_tried_at_most_six, lower_tried_at_most_s
 use Rattle.laws.proofs.TriedByRule.{upper_tried_by_rule, lower_tried_by_rule}
 
 module _ (table : Table) where
-  of_lot : (lot : Lot) (p : Percentages) → Counted lot → evaluation_says table lot ≡ answers p → UpperTriedByRule lot.upper lot.readings p.tried.upper × LowerTriedByRule lot.lower lot.readings p.tried.lower
+  of_lot : (lot : Lot) (p : Percentages) → Counted lot → evaluation_says table lot ≡ Ok p → UpperTriedByRule lot.upper lot.readings p.tried.upper × LowerTriedByRule lot.lower lot.readings p.tried.lower
   unfolding evaluation_says percentages_of
   of_lot lot p counted e =
       let h = answered nearest (table lot.n) lot p e in
@@ -42,14 +41,14 @@ module _ (table : Table) where
   -- of a lent list of readings with two limits
   pub answer_tried_by_rule :
       (upper lower : Limit) (xs : List ℤ) (p : Percentages) →
-      evaluation_said (Evaluation.Answers p) ≡ evaluation_says table (lot_of upper lower xs) →
+      (Ok p) ≡ evaluation_says table (lot_of upper lower xs) →
       UpperTriedByRule upper xs p.tried.upper × LowerTriedByRule lower xs p.tried.lower
   answer_tried_by_rule upper lower xs p e = of_lot (lot_of upper lower xs) p (lot_of_counted upper lower xs) (sym e)
 
   -- of a lot in memory, which has as many places as a lot can hold
   pub held_answer_tried_by_rule :
       (held : HeldLot) (p : Percentages) → length held.readings ≡ most →
-      evaluation_said (Evaluation.Answers p) ≡ evaluation_says table (lot_in held) →
+      (Ok p) ≡ evaluation_says table (lot_in held) →
       UpperTriedByRule held.upper (take held.count (places held)) p.tried.upper × LowerTriedByRule held.lower (take held.count (places held)) p.tried.lower
   held_answer_tried_by_rule held p size e = of_lot (lot_in held) p (lot_in_counted held size) (sym e)
 
@@ -73,8 +72,8 @@ module _ (table : Table) where
   never_more_than_six lot r e = rw e (by (evaluation_says table lot) refl)
     where
       by : (said : Said Percentages) → evaluation_says table lot ≡ said → ((host_percentages said).tried.upper ≤ 6) × ((host_percentages said).tried.lower ≤ 6)
-      by (refused k) s = (zero-le, zero-le)
-      by (answers p) s =
+      by (Err k) s = (zero-le, zero-le)
+      by (Ok p) s =
           let h = answered nearest (table lot.n) lot p s in
           let a : Totals = totals lot.n lot.readings in
           rw (sym h.1) (upper_tried_at_most_six a lot.upper, lower_tried_at_most_six a lot.lower)

@@ -5,9 +5,9 @@ use Prim.Native.Nat.{ℕ, ◌≤◌}
 use lib.IntN.{ℤ, pos}
 use lib.ListN.{get_or, length}
 use lib.Signed.{lt_z}
+use Rattle.std.specs.Prelude.{Some, None}
 use Rattle.integers.proofs.Order.{<ℤ→≤ℤ, lt_lt_z}
-use Rattle.rules.specs.declared.Limit.{Limit}
-use Rattle.rules.specs.declared.Limit.TheVariants.{Absent, At}
+use Rattle.rules.specs.Units.{Limit}
 use Rattle.rules.specs.Percent.{totals, spread}
 use Rattle.rules.specs.Halving.{rows_tried, upper_tried, lower_tried}
 use Rattle.laws.specs.Ratio.{Ratio, Is}
@@ -45,10 +45,10 @@ module _ (xs : List ℤ) (beyond : Ratio) (d : ℤ) (is : Is beyond d (length xs
 module _ (xs : List ℤ) (some : 1 ≤ length xs) where
   pub upper_tried_by_rule : (upper : Limit) → UpperTriedByRule upper xs (upper_tried (totals (length xs) xs) upper)
   unfolding upper_tried
-  upper_tried_by_rule Absent = refl
-  upper_tried_by_rule (At u) = tried_by_rule xs _ _ (upper_beyond_is xs some u.0)
+  upper_tried_by_rule None = refl
+  upper_tried_by_rule (Some u) = tried_by_rule xs _ _ (upper_beyond_is xs some u.0)
 
   pub lower_tried_by_rule : (lower : Limit) → LowerTriedByRule lower xs (lower_tried (totals (length xs) xs) lower)
   unfolding lower_tried
-  lower_tried_by_rule Absent = refl
-  lower_tried_by_rule (At l) = tried_by_rule xs _ _ (lower_beyond_is xs some l.0)
+  lower_tried_by_rule None = refl
+  lower_tried_by_rule (Some l) = tried_by_rule xs _ _ (lower_beyond_is xs some l.0)

@@ -5,12 +5,11 @@ use mathlib.Core.List.{List, [], ◌∷◌, map}
 use Prim.Native.Nat.{ℕ}
 use lib.IntN.{ℤ, pos, neg_ℤ, ◌+ℤ◌, ◌-ℤ◌, +ℤ_comm}
 use lib.Signed.{le_z}
+use Rattle.std.specs.Prelude.{Some, None, Ok, Err}
 use Rattle.integers.proofs.Order.{le_z_neg, lt_z_neg}
-use Rattle.rules.specs.declared.Limit.{Limit}
-use Rattle.rules.specs.declared.Limit.TheVariants.{Absent, At}
+use Rattle.rules.specs.Units.{Limit, in_range, hundredths}
 use Rattle.rules.specs.declared.Percentages.{Percentages}
-use Rattle.rules.specs.Units.{in_range, hundredths}
-use Rattle.rules.specs.Said.{Said, refused, answers, Case, ruled, checked}
+use Rattle.rules.specs.Said.{Said, Case, ruled, checked}
 use Rattle.rules.specs.Lot.{Lot}
 use Rattle.rules.specs.Table.{Found, entries}
 use Rattle.rules.specs.Percent.{Rule, totals, side, upper_side, lower_side}
@@ -30,8 +29,8 @@ in_range_turned z =
     ap₂ (λ (a b : Bool). a && b) (le_z_neg (pos 500000) z) (le_z_neg z (neg_ℤ (pos 500000))) ∙ and_comm (le_z z (pos 500000)) (le_z (neg_ℤ (pos 500000)) z)
 
 limit_turned : (limit : Limit) → out_of_range (turned_limit limit) ≡ out_of_range limit
-limit_turned Absent = refl
-limit_turned (At z) = ap not (in_range_turned z.0)
+limit_turned None = refl
+limit_turned (Some z) = ap not (in_range_turned z.0)
 
 any_out_turned : (xs : List ℤ) → any_out (map neg_ℤ xs) ≡ any_out xs
 unfolding any_out
@@ -39,16 +38,16 @@ any_out_turned [] = refl
 any_out_turned (x ∷ xs) = ap₂ (λ (a b : Bool). not a || b) (in_range_turned x) (any_out_turned xs)
 
 none_turned : (upper lower : Limit) → none (turned_limit lower) (turned_limit upper) ≡ none upper lower
-none_turned Absent Absent = refl
-none_turned Absent (At l) = refl
-none_turned (At u) Absent = refl
-none_turned (At u) (At l) = refl
+none_turned None None = refl
+none_turned None (Some l) = refl
+none_turned (Some u) None = refl
+none_turned (Some u) (Some l) = refl
 
 crossed_turned : (upper lower : Limit) → crossed (turned_limit lower) (turned_limit upper) ≡ crossed upper lower
-crossed_turned Absent Absent = refl
-crossed_turned Absent (At l) = refl
-crossed_turned (At u) Absent = refl
-crossed_turned (At u) (At l) = lt_z_neg l.0 u.0
+crossed_turned None None = refl
+crossed_turned None (Some l) = refl
+crossed_turned (Some u) None = refl
+crossed_turned (Some u) (Some l) = lt_z_neg l.0 u.0
 
 limits_turned : (upper lower : Limit) → (out_of_range (turned_limit lower) || out_of_range (turned_limit upper)) ≡ (out_of_range upper || out_of_range lower)
 limits_turned upper lower = rw (limit_turned lower, limit_turned upper) (or_comm (out_of_range lower) (out_of_range upper))
@@ -66,24 +65,24 @@ meets_turned found lot =
 module _ (rule : Rule) (column : List ℕ) (n : ℕ) (xs : List ℤ) where
   upper_side_turned : (lower : Limit) → upper_side rule column (totals n (map neg_ℤ xs)) (turned_limit lower) ≡ lower_side rule column (totals n xs) lower
   unfolding upper_side lower_side
-  upper_side_turned Absent = refl
-  upper_side_turned (At l) = ap₂ (side rule column n) (spread_turned n xs) (upper_distance_turned n xs l.0)
+  upper_side_turned None = refl
+  upper_side_turned (Some l) = ap₂ (side rule column n) (spread_turned n xs) (upper_distance_turned n xs l.0)
 
   lower_side_turned : (upper : Limit) → lower_side rule column (totals n (map neg_ℤ xs)) (turned_limit upper) ≡ upper_side rule column (totals n xs) upper
   unfolding upper_side lower_side
-  lower_side_turned Absent = refl
-  lower_side_turned (At u) = ap₂ (side rule column n) (spread_turned n xs) (lower_distance_turned n xs u.0)
+  lower_side_turned None = refl
+  lower_side_turned (Some u) = ap₂ (side rule column n) (spread_turned n xs) (lower_distance_turned n xs u.0)
 
 module _ (n : ℕ) (xs : List ℤ) where
   upper_tried_turned : (lower : Limit) → upper_tried (totals n (map neg_ℤ xs)) (turned_limit lower) ≡ lower_tried (totals n xs) lower
   unfolding upper_tried lower_tried
-  upper_tried_turned Absent = refl
-  upper_tried_turned (At l) = ap₂ (rows_tried n) (spread_turned n xs) (upper_distance_turned n xs l.0)
+  upper_tried_turned None = refl
+  upper_tried_turned (Some l) = ap₂ (rows_tried n) (spread_turned n xs) (upper_distance_turned n xs l.0)
 
   lower_tried_turned : (upper : Limit) → lower_tried (totals n (map neg_ℤ xs)) (turned_limit upper) ≡ upper_tried (totals n xs) upper
   unfolding upper_tried lower_tried
-  lower_tried_turned Absent = refl
-  lower_tried_turned (At u) = ap₂ (rows_tried n) (spread_turned n xs) (lower_distance_turned n xs u.0)
+  lower_tried_turned None = refl
+  lower_tried_turned (Some u) = ap₂ (rows_tried n) (spread_turned n xs) (lower_distance_turned n xs u.0)
 
 percentages_turned : (rule : Rule) (column : List ℕ) (lot : Lot) → percentages rule column (turned lot) ≡ swapped (percentages rule column lot)
 unfolding percentages_of
@@ -104,8 +103,8 @@ ruled_swapped : (cases : List Case) (p : Percentages) → ruled cases (swapped p
 ruled_swapped cases p = ruled_given cases (swapped p) ∙ by (checked cases) ∙ sym (ap said_swapped (ruled_given cases p))
   where
     by : (s : Said (Unit {0})) → given (swapped p) s ≡ said_swapped (given p s)
-    by (refused r) = refl
-    by (answers u) = refl
+    by (Err r) = refl
+    by (Ok u) = refl
 
 -- Turning about zero swaps the sides, the PWL stays and a refusal stays the same refusal: of every lot, by any rule for rows and whatever is found.
 pub turning_swaps_sides :

@@ -9,17 +9,16 @@ use native.Mathlib.Omega.{arith}
 use lib.IntN.{ℤ, pos, nat_abs, ◌+ℤ◌, ◌*ℤ◌}
 use lib.ListN.{length, drop, get_or}
 use lib.Seq.{drop-cons, drop-length}
+use Rattle.std.specs.Prelude.{Ok, Err}
 use Rattle.integers.proofs.Difference.{var, nat, diff_eq, ◌⊕◌}
 use Rattle.integers.proofs.Magnitude.{nat_abs_add, nat_abs_mul}
 use Rattle.rules.specs.declared.Totals.{Totals}
-use Rattle.rules.specs.declared.TotalsAnswer.{TotalsAnswer}
 use Rattle.rules.specs.declared.Refusal.{Refusal}
 use Rattle.rules.specs.declared.Refusal.TheVariants.{Range}
 use Rattle.rules.specs.Units.{in_range}
-use Rattle.rules.specs.Said.{Said, refused, answers}
+use Rattle.rules.specs.Said.{Said}
 use Rattle.rules.specs.Percent.{sum, squares}
 use Rattle.rules.specs.Refusals.{any_out}
-use Rattle.rules.specs.Answers.{totals_said}
 use Rattle.laws.specs.Totalled.{with_reading, pass_says, walk_says}
 use Rattle.laws.proofs.Ruled.{ruled_none, ruled_met, ruled_passed}
 use Rattle.laws.proofs.Bounds.{in_range_bound}
@@ -57,11 +56,11 @@ module _ (xs : List ℤ) (i : ℕ) (here : i < length xs) where
   out_left = ap any_out left
 
   -- A reading out of range is refused, and so is the whole list,
-  pub walk_refuses : {a : Totals} {t : TotalsAnswer} {r : Refusal} → Walked xs i a → totals_said t ≡ pass_says a x → t ≡ TotalsAnswer.Refused r → (walk_says xs ≡ refused r) × (any_out xs ≡ true)
+  pub walk_refuses : {a : Totals} {t : Said Totals} {r : Refusal} → Walked xs i a → t ≡ pass_says a x → t ≡ Err r → (walk_says xs ≡ Err r) × (any_out xs ≡ true)
   unfolding pass_says walk_says
-  walk_refuses {a} {t} {r} w e h = by (in_range x) refl (sym e ∙ ap totals_said h)
+  walk_refuses {a} {t} {r} w e h = by (in_range x) refl (sym e ∙ h)
     where
-      by : (b : Bool) → in_range x ≡ b → cond b (answers (with_reading a x)) (refused Range) ≡ refused r → (walk_says xs ≡ refused r) × (any_out xs ≡ true)
+      by : (b : Bool) → in_range x ≡ b → cond b (Ok (with_reading a x)) (Err Range) ≡ Err r → (walk_says xs ≡ Err r) × (any_out xs ≡ true)
       by true inside f = absurd (let z : ◌≡◌ {A = ℕ} 0 1 = cc in omega arith)
       by false outside f =
           let out : any_out xs ≡ true = w.out_among_left ∙ out_left ∙ ap (λ (b : Bool). not b || any_out (drop (suc i) xs)) outside in
@@ -89,20 +88,20 @@ module _ (xs : List ℤ) (i : ℕ) (here : i < length xs) where
         squares_small = omega (arith, nat_abs_add (x *ℤ x) a.z, nat_abs_mul x x, mul-le-mul bound bound, w.squares_small);
       })
 
-  pub walk_goes_on : {a b : Totals} {t : TotalsAnswer} → Walked xs i a → totals_said t ≡ pass_says a x → t ≡ TotalsAnswer.Answers b → Walked xs (i + 1) b
+  pub walk_goes_on : {a b : Totals} {t : Said Totals} → Walked xs i a → t ≡ pass_says a x → t ≡ Ok b → Walked xs (i + 1) b
   unfolding pass_says
-  walk_goes_on {a} {b} {t} w e h = by (in_range x) refl (sym e ∙ ap totals_said h)
+  walk_goes_on {a} {b} {t} w e h = by (in_range x) refl (sym e ∙ h)
     where
       value : Said Totals → Totals
-      value (refused r) = b
-      value (answers c) = c
+      value (Err r) = b
+      value (Ok c) = c
 
-      by : (test : Bool) → in_range x ≡ test → cond test (answers (with_reading a x)) (refused Range) ≡ answers b → Walked xs (i + 1) b
+      by : (test : Bool) → in_range x ≡ test → cond test (Ok (with_reading a x)) (Err Range) ≡ Ok b → Walked xs (i + 1) b
       by true inside f = subst (Walked xs (i + 1)) (ap value f) (passed_on w inside)
       by false outside f = absurd (let z : ◌≡◌ {A = ℕ} 0 1 = cc in omega arith)
 
 -- At the end nothing is out of range, and the totals are those of the readings.
-pub walk_ends : (xs : List ℤ) {i : ℕ} {a : Totals} → Walked xs i a → length xs ≤ i → (any_out xs ≡ false) × (answers a ≡ walk_says xs)
+pub walk_ends : (xs : List ℤ) {i : ℕ} {a : Totals} → Walked xs i a → length xs ≤ i → (any_out xs ≡ false) × (Ok a ≡ walk_says xs)
 unfolding any_out sum squares walk_says
 walk_ends xs {i} {a} w end =
     let all : i ≡ length xs = le_antisymm w.passed end in
@@ -110,4 +109,4 @@ walk_ends xs {i} {a} w end =
     let t_same : a.t ≡ sum xs = sym (w.sum ∙ ap (λ (l : List ℤ). a.t +ℤ sum l) nothing ∙ diff_eq (var a.t ⊕ nat 0) (var a.t) (omega arith)) in
     let z_same : a.z ≡ squares xs = sym (w.squares ∙ ap (λ (l : List ℤ). a.z +ℤ squares l) nothing ∙ diff_eq (var a.z ⊕ nat 0) (var a.z) (omega arith)) in
     let all_in_range : any_out xs ≡ false = w.out_among_left ∙ ap any_out nothing in
-    (all_in_range, (λ j. answers (record { n = w.count j; t = t_same j; z = z_same j })) ∙ sym (ruled_passed _ _ _ all_in_range ∙ ruled_none _))
+    (all_in_range, (λ j. Ok (record { n = w.count j; t = t_same j; z = z_same j })) ∙ sym (ruled_passed _ _ _ all_in_range ∙ ruled_none _))

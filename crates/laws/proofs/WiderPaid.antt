@@ -2,10 +2,10 @@
 use mathlib.Core.Path.{◌≡◌}
 use lib.IntN.{ℤ}
 use lib.Signed.{◌≤ℤ◌, ≤ℤ_refl}
-use Rattle.rules.specs.declared.Limit.{Limit}
+use Rattle.std.specs.Prelude.{Ok}
+use Rattle.rules.specs.Units.{Limit}
 use Rattle.rules.specs.declared.Percentages.{Percentages}
 use Rattle.rules.specs.declared.Payment.{Payment}
-use Rattle.rules.specs.Said.{answers}
 use Rattle.rules.specs.Lot.{Lot}
 use Rattle.rules.specs.Table.{Found, entries}
 use Rattle.rules.specs.Percent.{Rule}
@@ -27,8 +27,8 @@ use Rattle.laws.proofs.Paid.{factor_is_not_lower, pay_is_not_lower}
 pub higher_is_not_paid_less :
     (which : Characteristic) (pwl higher other another price quantity : ℤ) (a b : Payment) →
     pwl ≤ℤ higher →
-    pay_says_of which pwl other another price quantity ≡ answers a →
-    pay_says_of which higher other another price quantity ≡ answers b →
+    pay_says_of which pwl other another price quantity ≡ Ok a →
+    pay_says_of which higher other another price quantity ≡ Ok b →
     (a.composite.0 ≤ℤ b.composite.0) × (a.pay.0 ≤ℤ b.pay.0)
 higher_is_not_paid_less vma pwl higher x y price quantity a b h =
     pay_is_not_lower pwl x y higher x y price quantity a b h (≤ℤ_refl x) (≤ℤ_refl y)
@@ -57,10 +57,10 @@ pub wider_is_not_paid_less :
     (which : Characteristic) (other another price quantity : ℤ) (a b : Payment) →
     RowRule rule lot.n → Column (entries found) →
     UpperAsWide lot.upper upper → LowerAsWide lot.lower lower →
-    evaluated rule found lot ≡ answers p →
-    evaluated rule found (with_limits upper lower lot) ≡ answers q →
-    pay_says_of which p.pwl.0 other another price quantity ≡ answers a →
-    pay_says_of which q.pwl.0 other another price quantity ≡ answers b →
+    evaluated rule found lot ≡ Ok p →
+    evaluated rule found (with_limits upper lower lot) ≡ Ok q →
+    pay_says_of which p.pwl.0 other another price quantity ≡ Ok a →
+    pay_says_of which q.pwl.0 other another price quantity ≡ Ok b →
     (factor p.pwl.0 ≤ℤ factor q.pwl.0) × (a.composite.0 ≤ℤ b.composite.0) × (a.pay.0 ≤ℤ b.pay.0)
 wider_is_not_paid_less rule found lot upper lower p q which x y price quantity a b rows shape above below e f g k =
     let h : p.pwl.0 ≤ℤ q.pwl.0 = (wider_is_not_lower rule found lot upper lower p q rows shape above below e f).2 in
@@ -72,8 +72,8 @@ pub limits_are_paid_alike :
     (rule : Rule) (found : Found) (lot : Lot) (upper lower : Limit) (p q : Percentages) →
     (which : Characteristic) (other another price quantity : ℤ) →
     RowRule rule lot.n → Column (entries found) →
-    evaluated rule found lot ≡ answers p →
-    evaluated rule found (with_limits upper lower lot) ≡ answers q →
+    evaluated rule found lot ≡ Ok p →
+    evaluated rule found (with_limits upper lower lot) ≡ Ok q →
     bare (pay_says_of which p.pwl.0 other another price quantity) ≡ bare (pay_says_of which q.pwl.0 other another price quantity)
 limits_are_paid_alike rule found lot upper lower p q which x y price quantity rows shape e f =
     percentages_are_paid_alike which p.pwl.0 q.pwl.0 x y price quantity (pwl_in_percent rule found lot p rows shape e)

@@ -1,8 +1,7 @@
 -- What documents 01 and 004 say of an answer (demand 2). Readings and limits are in thousandths; sides, PWL and a column's entries are in hundredths
 -- of a percent.
-use Rattle.std.specs.Prelude.{◌≡◌, List, ℕ, ◌*◌, ℤ, pos, ◌+ℤ◌, ◌-ℤ◌, length, ◌≤ℤ◌, ◌<ℤ◌}
-use Rattle.rules.specs.declared.Limit.{Limit}
-use Rattle.rules.specs.declared.Limit.TheVariants.{Absent, At}
+use Rattle.std.specs.Prelude.{◌≡◌, List, ℕ, ◌*◌, ℤ, pos, ◌+ℤ◌, ◌-ℤ◌, length, ◌≤ℤ◌, ◌<ℤ◌, Some, None}
+use Rattle.rules.specs.Units.{Limit}
 use Rattle.rules.specs.declared.Percentages.{Percentages}
 use Rattle.rules.specs.declared.Row.{Row}
 use Rattle.rules.specs.Table.{Table, a_column, entry}
@@ -29,12 +28,12 @@ pub record SideAsPublished (column : List ℕ) (beyond : Ratio) (xs : List ℤ) 
 
 -- An absent limit's side is 100 percent.
 abbrev pub UpperAsPublished : List ℕ → Limit → List ℤ → ℤ → Type 0
-UpperAsPublished column Absent xs side = side ≡ pos 10000
-UpperAsPublished column (At u) xs side = SideAsPublished column (upper_beyond u.0 xs) xs side
+UpperAsPublished column None xs side = side ≡ pos 10000
+UpperAsPublished column (Some u) xs side = SideAsPublished column (upper_beyond u.0 xs) xs side
 
 abbrev pub LowerAsPublished : List ℕ → Limit → List ℤ → ℤ → Type 0
-LowerAsPublished column Absent xs side = side ≡ pos 10000
-LowerAsPublished column (At l) xs side = SideAsPublished column (lower_beyond l.0 xs) xs side
+LowerAsPublished column None xs side = side ≡ pos 10000
+LowerAsPublished column (Some l) xs side = SideAsPublished column (lower_beyond l.0 xs) xs side
 
 -- (5) PWL = (P_U + P_L) − 100
 pub record AsPublished (column : List ℕ) (upper lower : Limit) (xs : List ℤ) (p : Percentages) : Type 0 where

@@ -1,16 +1,16 @@
 -- What is said of C's answers.
-use Rattle.std.specs.Prelude.{◌≡◌, ◌↔◌}
+use Rattle.std.specs.Prelude.{◌≡◌, ◌↔◌, Ok}
 use Rattle.rules.specs.declared.Percentages.{Percentages}
 use Rattle.rules.specs.declared.Row.{Row}
 use Rattle.rules.specs.declared.host.HostRefusal.{HostRefusal}
 use Rattle.rules.specs.declared.host.HostPercentages.{HostPercentages}
 use Rattle.rules.specs.declared.host.HostRow.{HostRow}
 use Rattle.rules.specs.Units.{hundredths}
-use Rattle.rules.specs.Said.{Said, answers}
+use Rattle.rules.specs.Said.{Said}
 
 -- There is an answer.
 abbrev pub HasAnswer : {A : Type 0} → Said A → Type 0
-HasAnswer {A} said = (a : A) × (said ≡ answers a)
+HasAnswer {A} said = (a : A) × (said ≡ Ok a)
 
 -- The refusal's number is 0 exactly when there is an answer.
 abbrev pub ZeroWhenAnswered : {A : Type 0} → HostRefusal → Said A → Type 0

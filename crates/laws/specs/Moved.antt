@@ -1,10 +1,8 @@
 -- A lot moved by one amount: all its readings and those of its limits that are present.
-use Rattle.std.specs.Prelude.{◌≡◌, false, List, map, ◌≤◌, ℤ, ◌+ℤ◌, length}
+use Rattle.std.specs.Prelude.{◌≡◌, false, List, map, ◌≤◌, ℤ, ◌+ℤ◌, length, Some, None}
 use Rattle.rules.specs.declared.Thousandths.{Thousandths}
-use Rattle.rules.specs.declared.Limit.{Limit}
-use Rattle.rules.specs.declared.Limit.TheVariants.{Absent, At}
+use Rattle.rules.specs.Units.{Limit, thousandths}
 use Rattle.rules.specs.declared.HeldLot.{HeldLot}
-use Rattle.rules.specs.Units.{thousandths}
 use Rattle.rules.specs.Lot.{Lot, most}
 use Rattle.rules.specs.Refusals.{range_case}
 
@@ -12,8 +10,8 @@ abbrev pub moved_readings : ℤ → List ℤ → List ℤ
 moved_readings amount xs = map (λ (x : ℤ). x +ℤ amount) xs
 
 abbrev pub moved_limit : ℤ → Limit → Limit
-moved_limit amount Absent = Absent
-moved_limit amount (At z) = At (thousandths (z.0 +ℤ amount))
+moved_limit amount None = None
+moved_limit amount (Some z) = Some (thousandths (z.0 +ℤ amount))
 
 abbrev pub moved : ℤ → Lot → Lot
 moved amount lot =

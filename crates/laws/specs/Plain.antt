@@ -1,7 +1,7 @@
 -- Document 02, R-5: a plain list of editions, asked the same as a store beside it, step for step.
-use Rattle.std.specs.Prelude.{◌≡◌, true, not, List, [], ◌∷◌, ◌++◌, ℕ, ◌-◌, leb, ltb, length}
+use Rattle.std.specs.Prelude.{◌≡◌, true, not, List, [], ◌∷◌, ◌++◌, ℕ, ◌-◌, leb, ltb, length, Ok, Err}
 use Rattle.rules.specs.declared.Refusal.TheVariants.{Room, Unsound, NotRising, NoEdition}
-use Rattle.rules.specs.Said.{Said, refused, answers, ruled}
+use Rattle.rules.specs.Said.{Said, ruled}
 use Rattle.rules.specs.Edition.{number_field, accepted}
 use Rattle.rules.specs.Store.{is_store, editions, most_editions, numbers, stored, start_in, least_after, size_of}
 use Rattle.rules.specs.Refusals.{given_when, room_case}
@@ -51,8 +51,8 @@ plain_lent (listing out) p = written (numbers p.list) out (plain_says (listing o
 
 -- an edition that is stored is the last one then
 abbrev pub with_last : Said ℕ → List ℕ → Plain → Plain
-with_last (refused r) e p = p
-with_last (answers start) e p = record { size = p.size; list = p.list ++ (e ∷ []) }
+with_last (Err r) e p = p
+with_last (Ok start) e p = record { size = p.size; list = p.list ++ (e ∷ []) }
 
 unfoldable pub plain_after : Step → Plain → Plain
 plain_after (storing e) p = with_last (plain_says (storing e) p) e p

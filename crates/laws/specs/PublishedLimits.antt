@@ -1,6 +1,7 @@
 -- Document 000's Table 1, as it prints it: in percent, with its decimals.
 use Rattle.std.specs.Prelude.{pos, neg_ℤ}
-use Rattle.rules.specs.declared.Limits.{Limits}
+use Rattle.rules.specs.declared.Thousandths.{Thousandths}
+use Rattle.rules.specs.declared.Pair.{Pair}
 use Rattle.laws.specs.Ratio.{Ratio, ratio, plus, Same}
 
 -- LL and UL
@@ -30,6 +31,6 @@ abbrev pub printed_others : Printed
 printed_others = record { lower = ratio (pos 915) 10; upper = ratio (pos 970) 10 }
 
 -- limits in thousandths that are those printed
-pub record As (limits : Limits) (printed : Printed) : Type 0 where
+pub record As (limits : Pair Thousandths) (printed : Printed) : Type 0 where
   pub below : Same (ratio limits.lower.0 1000) printed.lower
   pub above : Same (ratio limits.upper.0 1000) printed.upper

@@ -1,12 +1,10 @@
 -- What document 02 says of pay sheets.
-use Rattle.std.specs.Prelude.{◌≡◌, cond, List, [], ◌∷◌, ℕ, suc, ◌*◌, ◌≤◌, ◌<◌, eqb, ℤ, pos, neg_ℤ, nat_abs, ◌-ℤ◌, length, take, drop, get_or}
+use Rattle.std.specs.Prelude.{◌≡◌, cond, List, [], ◌∷◌, ℕ, suc, ◌*◌, ◌≤◌, ◌<◌, eqb, ℤ, pos, neg_ℤ, nat_abs, ◌-ℤ◌, length, take, drop, get_or, Option, Some, None, Ok}
 use Rattle.rules.specs.declared.Percentages.{Percentages}
 use Rattle.rules.specs.declared.Payment.{Payment}
 use Rattle.rules.specs.declared.Sheet.{Sheet}
 use Rattle.rules.specs.declared.Difference.{Difference}
-use Rattle.rules.specs.declared.Finding.{Finding}
 use Rattle.rules.specs.declared.host.HostChecked.{HostChecked}
-use Rattle.rules.specs.Said.{answers}
 use Rattle.rules.specs.Lot.{Lot}
 use Rattle.rules.specs.Table.{Table}
 use Rattle.rules.specs.Sheet.{sheet_numbers, sheet_of, differing, differences, difference_numbers}
@@ -51,9 +49,9 @@ pub record FirstDiffers (a b : Sheet) (d : Difference) : Type 0 where
   pub before : (k : ℕ) → k < d.entry → number_at a k ≡ number_at b k
 
 -- What document 02 asks of a check: accepted is the sheet that is ours, and of another the first entry that differs is named.
-abbrev pub Found : Sheet → Sheet → Finding → Type 0
-Found sheet ours Finding.Accepted = sheet ≡ ours
-Found sheet ours (Finding.Differs d) = FirstDiffers sheet ours d
+abbrev pub Found : Sheet → Sheet → Option Difference → Type 0
+Found sheet ours None = sheet ≡ ours
+Found sheet ours (Some d) = FirstDiffers sheet ours d
 
 -- Entries in their order, each once, from k on.
 abbrev pub InOrder : ℕ → List Difference → Type 0
@@ -85,22 +83,22 @@ pub record IsOurs (table : Table) (vma voids density : Lot) (price quantity : �
   pub of_vma : Percentages
   pub of_voids : Percentages
   pub of_density : Percentages
-  pub vma_answered : evaluation_says table vma ≡ answers of_vma
-  pub voids_answered : evaluation_says table voids ≡ answers of_voids
-  pub density_answered : evaluation_says table density ≡ answers of_density
+  pub vma_answered : evaluation_says table vma ≡ Ok of_vma
+  pub voids_answered : evaluation_says table voids ≡ Ok of_voids
+  pub density_answered : evaluation_says table density ≡ Ok of_density
   pub settled : Payment
-  pub paid : pay_says of_vma.pwl.0 of_voids.pwl.0 of_density.pwl.0 price quantity ≡ answers settled
+  pub paid : pay_says of_vma.pwl.0 of_voids.pwl.0 of_density.pwl.0 price quantity ≡ Ok settled
   pub same : ours ≡ sheet_of of_vma.pwl.0 of_voids.pwl.0 of_density.pwl.0 settled
 
 -- What a check finds, as a comparison with our own sheet lists it: nothing, or the first item.
-abbrev pub AsCompared : Finding → ℕ → List ℤ → Type 0
-AsCompared Finding.Accepted items after = items ≡ 0
-AsCompared (Finding.Differs d) items after =
+abbrev pub AsCompared : Option Difference → ℕ → List ℤ → Type 0
+AsCompared None items after = items ≡ 0
+AsCompared (Some d) items after =
     (1 ≤ items) × (get_or after 0 (pos 0) ≡ pos d.entry) × (get_or after 1 (pos 0) ≡ d.first -ℤ d.second)
 
 -- C's numbers as what is found
-abbrev pub given_finding : HostChecked → Finding
-given_finding r = cond (eqb r.accepted 1) Finding.Accepted (Finding.Differs (record { entry = r.entry; first = r.sheet; second = r.ours }))
+abbrev pub given_finding : HostChecked → Option Difference
+given_finding r = cond (eqb r.accepted 1) None (Some (record { entry = r.entry; first = r.sheet; second = r.ours }))
 
 -- ---- two lists of numbers, as a loop goes through them
 

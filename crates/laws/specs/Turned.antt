@@ -1,18 +1,15 @@
 -- A lot turned about zero, and an answer with its sides swapped.
-use Rattle.std.specs.Prelude.{map, neg_ℤ}
+use Rattle.std.specs.Prelude.{map, neg_ℤ, Some, None, Ok, Err}
 use Rattle.rules.specs.declared.Thousandths.{Thousandths}
-use Rattle.rules.specs.declared.Limit.{Limit}
-use Rattle.rules.specs.declared.Limit.TheVariants.{Absent, At}
+use Rattle.rules.specs.Units.{Limit, thousandths}
 use Rattle.rules.specs.declared.HeldLot.{HeldLot}
 use Rattle.rules.specs.declared.Percentages.{Percentages}
-use Rattle.rules.specs.declared.Evaluation.{Evaluation}
-use Rattle.rules.specs.Units.{thousandths}
-use Rattle.rules.specs.Said.{Said, refused, answers}
+use Rattle.rules.specs.Said.{Said}
 use Rattle.rules.specs.Lot.{Lot}
 
 abbrev pub turned_limit : Limit → Limit
-turned_limit Absent = Absent
-turned_limit (At z) = At (thousandths (neg_ℤ z.0))
+turned_limit None = None
+turned_limit (Some z) = Some (thousandths (neg_ℤ z.0))
 
 -- Readings and limits are negated, and the limits change sides.
 abbrev pub turned : Lot → Lot
@@ -46,9 +43,9 @@ swapped p =
 
 -- A refusal stays the same refusal.
 abbrev pub said_swapped : Said Percentages → Said Percentages
-said_swapped (refused r) = refused r
-said_swapped (answers p) = answers (swapped p)
+said_swapped (Err r) = Err r
+said_swapped (Ok p) = Ok (swapped p)
 
-abbrev pub answer_swapped : Evaluation → Evaluation
-answer_swapped (Evaluation.Refused r) = Evaluation.Refused r
-answer_swapped (Evaluation.Answers p) = Evaluation.Answers (swapped p)
+abbrev pub answer_swapped : Said Percentages → Said Percentages
+answer_swapped (Err r) = Err r
+answer_swapped (Ok p) = Ok (swapped p)

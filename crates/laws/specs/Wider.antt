@@ -1,10 +1,8 @@
 -- One limit is at least as wide as another: an absent limit is widest; of two present upper limits the wider is not lower, and of two present
 -- lower limits the wider is not higher.
-use Rattle.std.specs.Prelude.{◌≡◌, ℤ, ◌≤ℤ◌}
-use Rattle.rules.specs.declared.Limit.{Limit}
-use Rattle.rules.specs.declared.Limit.TheVariants.{Absent, At}
+use Rattle.std.specs.Prelude.{◌≡◌, ℤ, ◌≤ℤ◌, Some, None, Ok}
+use Rattle.rules.specs.Units.{Limit}
 use Rattle.rules.specs.declared.Percentages.{Percentages}
-use Rattle.rules.specs.Said.{answers}
 use Rattle.rules.specs.Lot.{Lot}
 use Rattle.rules.specs.Table.{Table}
 use Rattle.rules.specs.Entries.{evaluation_says}
@@ -14,18 +12,18 @@ abbrev pub with_limits : Limit → Limit → Lot → Lot
 with_limits upper lower lot = record { n = lot.n; upper = upper; lower = lower; readings = lot.readings }
 
 abbrev pub UpperAsWide : Limit → Limit → Type 0
-UpperAsWide upper Absent = Unit {0}
-UpperAsWide Absent (At w) = ⊥
-UpperAsWide (At u) (At w) = u.0 ≤ℤ w.0
+UpperAsWide upper None = Unit {0}
+UpperAsWide None (Some w) = ⊥
+UpperAsWide (Some u) (Some w) = u.0 ≤ℤ w.0
 
 abbrev pub LowerAsWide : Limit → Limit → Type 0
-LowerAsWide lower Absent = Unit {0}
-LowerAsWide Absent (At w) = ⊥
-LowerAsWide (At l) (At w) = w.0 ≤ℤ l.0
+LowerAsWide lower None = Unit {0}
+LowerAsWide None (Some w) = ⊥
+LowerAsWide (Some l) (Some w) = w.0 ≤ℤ l.0
 
 -- The PWL that is answered for a lot by a table.
 abbrev pub HasPwl : Table → Lot → ℤ → Type 0
-HasPwl table lot pwl = (p : Percentages) × (evaluation_says table lot ≡ answers p) × (p.pwl.0 ≡ pwl)
+HasPwl table lot pwl = (p : Percentages) × (evaluation_says table lot ≡ Ok p) × (p.pwl.0 ≡ pwl)
 
 -- The PWLs of the same readings by one table under two pairs of limits, the second at least as wide on each side.
 pub record Widened (table : Table) (pwl wider : ℤ) : Type 0 where

@@ -1,29 +1,46 @@
 // Limits by mixture, by document 000's Table 1.
 #![tactic(auto)]
 
-ghost use Rattle.std.specs.Prelude.{◌≡◌, false, ◌≤◌, pos, ◌+ℤ◌};
-ghost use Rattle.rules.specs.Mixture.{vma_pair, voids_pair, density_pair, limits};
-ghost use Rattle.rules.specs.Refusals.{pair_out};
-ghost use Rattle.rules.specs.Answers.{mixture_said};
+ghost use Rattle.std.specs.Prelude.{◌≡◌, ◌+ℤ◌};
+ghost use Rattle.rules.specs.Mixture.{density_pair, limits};
 ghost use Rattle.rules.specs.Entries.{mixture_says};
+ghost use Rattle.mixture.specs.Mixture.{mixture_number, GivesMixture, GivesLimit, GivesLimits};
 
-use refusals::{in_range, outside};
-use rules::{Limits, MixtureAnswer, MixtureLimits, Pair, Refusal, Thousandths};
+use refusals::in_range;
+use rules::{Characteristics, Pair, Refusal, Thousandths};
 
-// Lower and upper, a row for each line of the table: offsets first, then limits by mixture number.
-const TABLE_1: [[i32; 2]; 6] = [
+// Lower and upper, a row for each line of the table: offsets first, then limits by mixture.
+const TABLE_1: [Pair<i32>; 6] = [
     // VMA, from its minimum
-    [-700, 3000],
+    Pair {
+        lower: -700,
+        upper: 3000,
+    },
     // voids, from their target
-    [-1350, 1350],
+    Pair {
+        lower: -1350,
+        upper: 1350,
+    },
     // density of IL-4.75
-    [92500, 97000],
+    Pair {
+        lower: 92500,
+        upper: 97000,
+    },
     // of IL-19.0 and 25.0
-    [92200, 97000],
+    Pair {
+        lower: 92200,
+        upper: 97000,
+    },
     // of SMA
-    [93000, 98000],
+    Pair {
+        lower: 93000,
+        upper: 98000,
+    },
     // of all others
-    [91500, 97000],
+    Pair {
+        lower: 91500,
+        upper: 97000,
+    },
 ];
 
 const VMA: usize = 0;
@@ -32,79 +49,86 @@ const VOIDS: usize = 1;
 
 const DENSITY: usize = 2;
 
+// The mixtures, by their numbers: IL-4.75, IL-19.0 and 25.0, SMA, all others.
+#[derive(Clone, Copy)]
+enum Mixture {
+    Il475 = 0,
+    Il190Or250 = 1,
+    Sma = 2,
+    AllOthers = 3,
+}
+
+impl TryFrom<i64> for Mixture {
+    type Error = Refusal;
+
+    ghost try_from_gives = { GivesMixture };
+
+    fn try_from(number: i64) -> Result<Self, Refusal> {
+        match number {
+            0 => Ok(Mixture::Il475),
+            1 => Ok(Mixture::Il190Or250),
+            2 => Ok(Mixture::Sma),
+            3 => Ok(Mixture::AllOthers),
+            _ => Err(Refusal::Number),
+        }
+    }
+}
+
+impl Mixture {
+    #[tactic(auto, unfolding(rules::specs::Mixture::density_pairs))]
+    fn density(self) -> Pair<Thousandths>
+        ensures { result ≡ limits (density_pair (mixture_number self)) }
+    {
+        let row = TABLE_1[DENSITY + self as usize];
+        Pair {
+            lower: Thousandths(row.lower),
+            upper: Thousandths(row.upper),
+        }
+    }
+}
+
 fn sum(z: Thousandths, offset: i32) -> i64
     ensures { result ≡ z.0 +ℤ offset }
 {
     z.0 as i64 + offset as i64
 }
 
-fn pair(z: Thousandths, lower: i32, upper: i32) -> Pair
-    ensures { result ≡ record { lower = z.0 +ℤ lower; upper = z.0 +ℤ upper } }
+// The limit at an offset from a minimum or a target; or refusal 5.
+fn limit(z: Thousandths, offset: i32) -> Result<Thousandths, Refusal>
+    ensures { GivesLimit z.0 offset result }
 {
-    Pair {
-        lower: sum(z, lower),
-        upper: sum(z, upper),
+    let limit = sum(z, offset);
+    if !in_range(limit) {
+        return Err(Refusal::Range);
     }
+    Ok(Thousandths(limit as i32))
 }
 
-fn vma_pair(minimum: Thousandths) -> Pair
-    ensures { result ≡ vma_pair minimum.0 }
+// The limits at the offsets of a row; or refusal 5.
+fn limits(z: Thousandths, offsets: Pair<i32>) -> Result<Pair<Thousandths>, Refusal>
+    ensures { GivesLimits z.0 offsets result }
 {
-    pair(minimum, TABLE_1[VMA][0], TABLE_1[VMA][1])
+    Ok(Pair {
+        lower: limit(z, offsets.lower)?,
+        upper: limit(z, offsets.upper)?,
+    })
 }
 
-fn voids_pair(target: Thousandths) -> Pair
-    ensures { result ≡ voids_pair target.0 }
-{
-    pair(target, TABLE_1[VOIDS][0], TABLE_1[VOIDS][1])
-}
-
-#[tactic(auto, unfolding(rules::specs::Mixture::density_pairs))]
-fn density(mixture: usize) -> Limits
-    requires { mixture ≤ 3 }
-    ensures { result ≡ limits (density_pair (pos mixture)) }
-{
-    Limits {
-        lower: Thousandths(TABLE_1[DENSITY + mixture][0]),
-        upper: Thousandths(TABLE_1[DENSITY + mixture][1]),
-    }
-}
-
-fn pair_out(pair: Pair) -> bool
-    ensures { result ≡ pair_out pair }
-{
-    !in_range(pair.upper) | !in_range(pair.lower)
-}
-
-// The limits of a pair that is in range.
-fn limits(pair: Pair) -> Limits
-    requires { pair_out pair ≡ false }
-    ensures { result ≡ limits pair }
-{
-    Limits {
-        lower: Thousandths(pair.lower as i32),
-        upper: Thousandths(pair.upper as i32),
-    }
-}
-
-// The limits of the three characteristics, by a mixture number, a VMA minimum and a voids target; or refusal 5 or 9.
+// The limits of the three characteristics, by a mixture number, a VMA minimum and a voids target; or refusal 5, or else 9.
 #[tactic(auto, unfolding(rules::specs::Entries::mixture_says, rules::specs::Meets::mixture_meets, rules::specs::Mixture::mixture_limits, rules::specs::Said::ruled))]
-pub fn lookup(mixture: i64, minimum: Thousandths, target: Thousandths) -> MixtureAnswer
-    ensures { mixture_said result ≡ mixture_says mixture minimum.0 target.0 }
+pub fn lookup(
+    mixture: i64,
+    minimum: Thousandths,
+    target: Thousandths,
+) -> Result<Characteristics<Pair<Thousandths>>, Refusal>
+    ensures { result ≡ mixture_says mixture minimum.0 target.0 }
 {
-    let vma = vma_pair(minimum);
-    let voids = voids_pair(target);
-    let far = pair_out(vma) | pair_out(voids);
-    let unknown = outside(3, mixture);
-    if far {
-        MixtureAnswer::Refused(Refusal::Range)
-    } else if unknown {
-        MixtureAnswer::Refused(Refusal::Number)
-    } else {
-        MixtureAnswer::Answers(MixtureLimits {
-            vma: limits(vma),
-            voids: limits(voids),
-            density: density(mixture as usize),
-        })
-    }
+    let vma = limits(minimum, TABLE_1[VMA])?;
+    let voids = limits(target, TABLE_1[VOIDS])?;
+    let mixture = Mixture::try_from(mixture)?;
+    Ok(Characteristics {
+        vma,
+        voids,
+        density: mixture.density(),
+    })
 }

@@ -10,7 +10,6 @@ ghost use Rattle.rules.specs.Deviation.{deviation};
 ghost use Rattle.rules.specs.Refusals.{out_of_range, size_fits};
 ghost use Rattle.rules.specs.Meets.{bytes_meet};
 ghost use Rattle.rules.specs.Notebook.{lent_lot, over, mean_asked, deviation_asked, pwl_asked};
-ghost use Rattle.rules.specs.Answers.{totals_said, row_said};
 ghost use Rattle.rules.specs.Entries.{percentages_of, row_says};
 ghost use Rattle.rules.specs.Host.{host_refusal};
 ghost use Rattle.laws.specs.Column.{Column};
@@ -26,7 +25,7 @@ use quality::{percentages, with_column};
 use readings::{rounded, spread};
 use refusals::allowed;
 use rules::host::HostRefusal;
-use rules::{ColumnAnswer, Columned, Limit, Refusal, Row, RowAnswer, Totals, TotalsAnswer};
+use rules::{Columned, LotLimits, Refusal, Row, Totals};
 
 // Each double of a refused lot.
 const REFUSED: f64 = 0.0;
@@ -39,23 +38,21 @@ fn size_fits(size: usize) -> bool
 }
 
 // The totals of a lot whose readings come as bytes, or the refusal that the lot meets: 4 to 7.
-fn totals(bytes: &[u8], upper: Limit, lower: Limit) -> TotalsAnswer
-    ensures { totals_said result ≡ totalled (bytes_meet bytes.now) (lent_lot upper lower bytes.now) }
+fn totals(bytes: &[u8], limits: LotLimits) -> Result<Totals, Refusal>
+    ensures { result ≡ totalled (bytes_meet bytes.now) (lent_lot limits.upper limits.lower bytes.now) }
 {
-    if size_fits(bytes.len()) {
-        let walked = walk(bytes, bytes.len() / 4);
-        let said = walked.said;
-        met(said, upper, lower)
-    } else {
-        TotalsAnswer::Refused(Refusal::Count)
+    if !size_fits(bytes.len()) {
+        return Err(Refusal::Count);
     }
+    let walked = met(walk(bytes, bytes.len() / 4), limits)?;
+    Ok(walked.totals)
 }
 
 // These with the place of the column for their count, or the refusal that the row meets: 11, 4 to 7, 13 or 10.
-fn lent(store: &[u8], edition: u32, bytes: &[u8], upper: Limit, lower: Limit) -> ColumnAnswer
-    ensures { (columned_said result ≡ totalled (row_by_table (table_in store.now edition) bytes.now) (lent_lot upper lower bytes.now)) × ColumnPlaced store.now (named_says edition store.now) result }
+fn lent(store: &[u8], edition: u32, bytes: &[u8], limits: LotLimits) -> Result<Columned, Refusal>
+    ensures { (columned_said result ≡ totalled (row_by_table (table_in store.now edition) bytes.now) (lent_lot limits.upper limits.lower bytes.now)) × ColumnPlaced store.now (named_says edition store.now) result }
 {
-    with_column(store, named(store, edition), totals(bytes, upper, lower))
+    with_column(store, named(store, edition), totals(bytes, limits))
 }
 
 // T over 1000·n: both are exact as doubles, so the quotient is rounded once.
@@ -73,61 +70,59 @@ fn deviation_of(a: Totals) -> f64
     rounded(a.n as u64, spread(a)) as i32 as f64 / 1000 as f64
 }
 
-fn pwl_of(store: &[u8], lot: Columned, upper: Limit, lower: Limit) -> f64
-    requires { Bounded lot.totals × (out_of_range upper ≡ false) × (out_of_range lower ≡ false) × (lot.column + column_size ≤ length store.now) × Column (column_in (drop lot.column store.now)) }
-    ensures { result ≡ over (percentages_of nearest (column_in (drop lot.column store.now)) lot.totals upper lower).pwl.0 100 }
+fn pwl_of(store: &[u8], lot: Columned, limits: LotLimits) -> f64
+    requires { Bounded lot.totals × (out_of_range limits.upper ≡ false) × (out_of_range limits.lower ≡ false) × (lot.column + column_size ≤ length store.now) × Column (column_in (drop lot.column store.now)) }
+    ensures { result ≡ over (percentages_of nearest (column_in (drop lot.column store.now)) lot.totals limits.upper limits.lower).pwl.0 100 }
 {
-    let p = percentages(store, lot, upper, lower);
+    let p = percentages(store, lot, limits);
     p.pwl.0 as i32 as f64 / 100 as f64
 }
 
 // The row of a lot, or the refusal that it meets.
-pub fn row(store: &[u8], edition: u32, bytes: &[u8], upper: Limit, lower: Limit) -> RowAnswer
-    ensures { row_said result ≡ row_says (table_in store.now edition) upper lower bytes.now }
+pub fn row(store: &[u8], edition: u32, bytes: &[u8], limits: LotLimits) -> Result<Row, Refusal>
+    ensures { result ≡ row_says (table_in store.now edition) limits.upper limits.lower bytes.now }
 {
-    match lent(store, edition, bytes, upper, lower) {
-        ColumnAnswer::Refused(refusal) => RowAnswer::Refused(refusal),
-        ColumnAnswer::Answers(c) => RowAnswer::Answers(Row {
-            mean: mean_of(c.totals),
-            deviation: deviation_of(c.totals),
-            pwl: pwl_of(store, c, upper, lower),
-        }),
-    }
+    let lot = lent(store, edition, bytes, limits)?;
+    Ok(Row {
+        mean: mean_of(lot.totals),
+        deviation: deviation_of(lot.totals),
+        pwl: pwl_of(store, lot, limits),
+    })
 }
 
 // The refusal alone and, below, each double alone: the search for the deviation runs only where the deviation is asked for.
-pub fn refusal(store: &[u8], edition: u32, bytes: &[u8], upper: Limit, lower: Limit) -> HostRefusal
-    ensures { result ≡ host_refusal (row_says (table_in store.now edition) upper lower bytes.now) }
+pub fn refusal(store: &[u8], edition: u32, bytes: &[u8], limits: LotLimits) -> HostRefusal
+    ensures { result ≡ host_refusal (row_says (table_in store.now edition) limits.upper limits.lower bytes.now) }
 {
-    match lent(store, edition, bytes, upper, lower) {
-        ColumnAnswer::Refused(refusal) => refused(refusal),
-        ColumnAnswer::Answers(_) => UNREFUSED,
+    match lent(store, edition, bytes, limits) {
+        Err(refusal) => refused(refusal),
+        Ok(_) => UNREFUSED,
     }
 }
 
-pub fn mean(store: &[u8], edition: u32, bytes: &[u8], upper: Limit, lower: Limit) -> f64
-    ensures { result ≡ mean_asked (row_says (table_in store.now edition) upper lower bytes.now) }
+pub fn mean(store: &[u8], edition: u32, bytes: &[u8], limits: LotLimits) -> f64
+    ensures { result ≡ mean_asked (row_says (table_in store.now edition) limits.upper limits.lower bytes.now) }
 {
-    match lent(store, edition, bytes, upper, lower) {
-        ColumnAnswer::Refused(_) => REFUSED,
-        ColumnAnswer::Answers(c) => mean_of(c.totals),
-    }
+    let Ok(lot) = lent(store, edition, bytes, limits) else {
+        return REFUSED;
+    };
+    mean_of(lot.totals)
 }
 
-pub fn deviation(store: &[u8], edition: u32, bytes: &[u8], upper: Limit, lower: Limit) -> f64
-    ensures { result ≡ deviation_asked (row_says (table_in store.now edition) upper lower bytes.now) }
+pub fn deviation(store: &[u8], edition: u32, bytes: &[u8], limits: LotLimits) -> f64
+    ensures { result ≡ deviation_asked (row_says (table_in store.now edition) limits.upper limits.lower bytes.now) }
 {
-    match lent(store, edition, bytes, upper, lower) {
-        ColumnAnswer::Refused(_) => REFUSED,
-        ColumnAnswer::Answers(c) => deviation_of(c.totals),
-    }
+    let Ok(lot) = lent(store, edition, bytes, limits) else {
+        return REFUSED;
+    };
+    deviation_of(lot.totals)
 }
 
-pub fn pwl(store: &[u8], edition: u32, bytes: &[u8], upper: Limit, lower: Limit) -> f64
-    ensures { result ≡ pwl_asked (row_says (table_in store.now edition) upper lower bytes.now) }
+pub fn pwl(store: &[u8], edition: u32, bytes: &[u8], limits: LotLimits) -> f64
+    ensures { result ≡ pwl_asked (row_says (table_in store.now edition) limits.upper limits.lower bytes.now) }
 {
-    match lent(store, edition, bytes, upper, lower) {
-        ColumnAnswer::Refused(_) => REFUSED,
-        ColumnAnswer::Answers(c) => pwl_of(store, c, upper, lower),
-    }
+    let Ok(lot) = lent(store, edition, bytes, limits) else {
+        return REFUSED;
+    };
+    pwl_of(store, lot, limits)
 }

@@ -3,14 +3,13 @@
 
 ghost use Rattle.std.specs.Prelude.{◌≡◌, pos};
 ghost use Rattle.rules.specs.Pay.{factor, weighted, composite, final_pay, rejected, verdict, payment};
-ghost use Rattle.rules.specs.Answers.{pay_said};
 ghost use Rattle.rules.specs.Entries.{pay_says};
 ghost use Rattle.laws.specs.Between.{Between};
 ghost use Rattle.laws.specs.InPercent.{InPercent};
 ghost use Rattle.laws.specs.Payable.{Percents, Priced, Payable};
 
 use rules::{
-    Cents, Composite, HundredthTons, Hundredths, Outcome, PayAnswer, Payment, TwoHundredths,
+    Cents, Characteristics, Composite, HundredthTons, Hundredths, Payment, Refusal, TwoHundredths,
     Verdict, Weighted,
 };
 
@@ -38,19 +37,22 @@ impl PayRule {
         requires { InPercent pwl.0 }
         ensures { result.0 ≡ factor pwl.0 }
     {
-        TwoHundredths(200 * PayRule::BASE + 200 / (100 * PayRule::SLOPE_OVER) * pwl.0)
+        TwoHundredths(200 * Self::BASE + 200 / (100 * Self::SLOPE_OVER) * pwl.0)
     }
 
     // W, the weighted sum of the three factors. Inner, as `factor`.
-    pub fn weighted(vma: Hundredths, voids: Hundredths, density: Hundredths) -> Weighted
-        requires { Percents vma.0 voids.0 density.0 }
-        ensures { result.0 ≡ weighted vma.0 voids.0 density.0 }
+    #[tactic(auto, unfolding(rules::specs::Pay::factor))]
+    pub fn weighted(pwls: Characteristics<Hundredths>) -> Weighted
+        requires { Percents pwls.vma.0 pwls.voids.0 pwls.density.0 }
+        ensures { result.0 ≡ weighted pwls.vma.0 pwls.voids.0 pwls.density.0 }
     {
-        let a = PayRule::factor(vma);
-        let b = PayRule::factor(voids);
-        let c = PayRule::factor(density);
+        let vma = Self::factor(pwls.vma);
+        let voids = Self::factor(pwls.voids);
+        let density = Self::factor(pwls.density);
         Weighted(
-            PayRule::WEIGHT_VMA * a.0 + PayRule::WEIGHT_VOIDS * b.0 + PayRule::WEIGHT_DENSITY * c.0,
+            Self::WEIGHT_VMA * vma.0
+                + Self::WEIGHT_VOIDS * voids.0
+                + Self::WEIGHT_DENSITY * density.0,
         )
     }
 
@@ -73,60 +75,49 @@ impl PayRule {
 }
 
 // A characteristic is rejected exactly when its PWL is below 50 percent.
-fn rejected(pwl: Hundredths) -> bool
-    ensures { result ≡ rejected pwl.0 }
+fn verdict(pwl: Hundredths) -> Verdict
+    ensures { result ≡ verdict (rejected pwl.0) }
 {
-    pwl.0 < 5000
-}
-
-fn verdict(rejected: bool) -> Verdict
-    ensures { result ≡ verdict rejected }
-{
-    if rejected {
+    if pwl.0 < 5000 {
         Verdict::Rejected
     } else {
         Verdict::Accepted
     }
 }
 
-// The composite, the verdicts and the pay, of numbers that pay takes.
+// The composite, the verdicts and the pay, of numbers that pay takes. The lot is rejected exactly when one of the three is.
 #[tactic(auto, unfolding(rules::specs::Pay::payment))]
-fn paid(
-    vma: Hundredths,
-    voids: Hundredths,
-    density: Hundredths,
-    price: Cents,
-    quantity: HundredthTons,
-) -> Payment
-    requires { Payable vma.0 voids.0 density.0 price.0 quantity.0 }
-    ensures { result ≡ payment vma.0 voids.0 density.0 price.0 quantity.0 }
+fn paid(pwls: Characteristics<Hundredths>, price: Cents, quantity: HundredthTons) -> Payment
+    requires { Payable pwls.vma.0 pwls.voids.0 pwls.density.0 price.0 quantity.0 }
+    ensures { result ≡ payment pwls.vma.0 pwls.voids.0 pwls.density.0 price.0 quantity.0 }
 {
-    let composite = PayRule::composite(PayRule::weighted(vma, voids, density));
-    let vma_rejected = rejected(vma);
-    let voids_rejected = rejected(voids);
-    let density_rejected = rejected(density);
+    let composite = PayRule::composite(PayRule::weighted(pwls));
+    let vma = verdict(pwls.vma);
+    let voids = verdict(pwls.voids);
+    let density = verdict(pwls.density);
+    let lot = match (vma, voids, density) {
+        (Verdict::Accepted, Verdict::Accepted, Verdict::Accepted) => Verdict::Accepted,
+        _ => Verdict::Rejected,
+    };
     Payment {
-        composite: composite,
-        vma: verdict(vma_rejected),
-        voids: verdict(voids_rejected),
-        density: verdict(density_rejected),
-        lot: verdict(vma_rejected | voids_rejected | density_rejected),
+        composite,
+        vma,
+        voids,
+        density,
+        lot,
         pay: PayRule::final_pay(price, quantity, composite),
     }
 }
 
 // Composite, verdicts and pay, by the PWLs of the three characteristics, a price a ton and a quantity; or refusal 9.
+#[tactic(auto, using(laws::proofs::Payable::payable, laws::proofs::Ruled::ruled_given), unfolding(rules::specs::Entries::pay_says))]
 pub fn payment(
-    vma: Hundredths,
-    voids: Hundredths,
-    density: Hundredths,
+    pwls: Characteristics<Hundredths>,
     price: Cents,
     quantity: HundredthTons,
-) -> PayAnswer
-    ensures { pay_said result ≡ pay_says vma.0 voids.0 density.0 price.0 quantity.0 }
+) -> Result<Payment, Refusal>
+    ensures { result ≡ pay_says pwls.vma.0 pwls.voids.0 pwls.density.0 price.0 quantity.0 }
 {
-    match refusals::pay(vma, voids, density, price, quantity) {
-        Outcome::Refused(refusal) => PayAnswer::Refused(refusal),
-        Outcome::Answers => PayAnswer::Answers(paid(vma, voids, density, price, quantity)),
-    }
+    refusals::pay(pwls, price, quantity)?;
+    Ok(paid(pwls, price, quantity))
 }

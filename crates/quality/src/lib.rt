@@ -11,7 +11,6 @@ ghost use Rattle.rules.specs.Edition.{column_size};
 ghost use Rattle.rules.specs.Store.{table_in};
 ghost use Rattle.rules.specs.Percent.{nearest, within};
 ghost use Rattle.rules.specs.Refusals.{out_of_range};
-ghost use Rattle.rules.specs.Answers.{totals_said, evaluation_said};
 ghost use Rattle.rules.specs.Entries.{percentages_of, evaluation_says};
 ghost use Rattle.laws.specs.Column.{Column};
 ghost use Rattle.laws.specs.ColumnIn.{ColumnIn};
@@ -22,12 +21,10 @@ ghost use Rattle.laws.specs.Totalled.{with_column_say, columned_said};
 
 use editions::named;
 use readings::spread;
-use rules::store::Named;
 use rules::{
-    ColumnAnswer, Columned, Evaluation, HUNDRED_PERCENT, HeldLot, Hundredths, Limit, Percentages,
-    Refusal, Totals, TotalsAnswer, Tried,
+    Columned, HUNDRED_PERCENT, HeldLot, Hundredths, LotLimits, Percentages, Refusal, Totals, Tried,
 };
-use side::{lower_side, upper_side};
+use side::Sides;
 
 // PWL = upper + lower − 10,000
 fn within(upper: Hundredths, lower: Hundredths) -> Hundredths
@@ -39,22 +36,24 @@ fn within(upper: Hundredths, lower: Hundredths) -> Hundredths
 
 // Both sides and PWL, by a column, and the rows tried for each side.
 #[tactic(auto, unfolding(rules::specs::Entries::percentages_of))]
-fn by_column(column: &[u8], a: Totals, upper: Limit, lower: Limit) -> Percentages
-    requires { ColumnIn column.now × Bounded a × (out_of_range upper ≡ false) × (out_of_range lower ≡ false) }
-    ensures { result ≡ percentages_of nearest (column_in column.now) a upper lower }
+fn by_column(column: &[u8], totals: Totals, limits: LotLimits) -> Percentages
+    requires { ColumnIn column.now × Bounded totals × (out_of_range limits.upper ≡ false) × (out_of_range limits.lower ≡ false) }
+    ensures { result ≡ percentages_of nearest (column_in column.now) totals limits.upper limits.lower }
 {
-    let v = spread(a);
-    let u = upper_side(column, a, v, upper);
-    let l = lower_side(column, a, v, lower);
-    let above = u.percentage;
-    let below = l.percentage;
+    let sides = Sides {
+        column,
+        totals,
+        v: spread(totals),
+    };
+    let upper = sides.upper(limits.upper);
+    let lower = sides.lower(limits.lower);
     Percentages {
-        upper: above,
-        lower: below,
-        pwl: within(above, below),
+        upper: upper.found,
+        lower: lower.found,
+        pwl: within(upper.found, lower.found),
         tried: Tried {
-            upper: u.tried,
-            lower: l.tried,
+            upper: upper.tried,
+            lower: lower.tried,
         },
     }
 }
@@ -62,40 +61,34 @@ fn by_column(column: &[u8], a: Totals, upper: Limit, lower: Limit) -> Percentage
 // What is said of a lot where its percentages are asked for, and where its column stands: 11 where the lent bytes are no store, before all that is said
 // of the lot; and after it 13, where the store has no edition of that number, or 10, where the edition has no column for the count.
 // Inner: the entries pass what the same store has of the edition that is named.
-pub fn with_column(store: &[u8], edition: Named, said: TotalsAnswer) -> ColumnAnswer
+pub fn with_column(
+    store: &[u8],
+    edition: Result<Option<usize>, Refusal>,
+    said: Result<Totals, Refusal>,
+) -> Result<Columned, Refusal>
     requires { NamedIn store.now edition }
-    ensures { (columned_said result ≡ with_column_say edition store.now (totals_said said)) × ColumnPlaced store.now edition result }
+    ensures { (columned_said result ≡ with_column_say edition store.now said) × ColumnPlaced store.now edition result }
 {
-    match edition {
-        Named::Unsound => ColumnAnswer::Refused(Refusal::Unsound),
-        Named::Unknown => match said {
-            TotalsAnswer::Refused(refusal) => ColumnAnswer::Refused(refusal),
-            TotalsAnswer::Answers(_) => ColumnAnswer::Refused(Refusal::NoEdition),
-        },
-        Named::Starts(start) => match said {
-            TotalsAnswer::Refused(refusal) => ColumnAnswer::Refused(refusal),
-            TotalsAnswer::Answers(a) => {
-                if editions::has_column(store, start, a.n as usize) {
-                    ColumnAnswer::Answers(Columned {
-                        totals: a,
-                        column: editions::column(store, start, a.n as usize),
-                    })
-                } else {
-                    ColumnAnswer::Refused(Refusal::NoColumn)
-                }
-            }
-        },
+    let found = edition?;
+    let totals = said?;
+    let start = found.ok_or(Refusal::NoEdition)?;
+    let n = totals.n as usize;
+    if !editions::has_column(store, start, n) {
+        return Err(Refusal::NoColumn);
     }
+    Ok(Columned {
+        totals,
+        column: editions::column(store, start, n),
+    })
 }
 
 // Both sides and PWL, and the rows tried for each side, by the column where it stands in the store.
 // Inner: the entries pass totals and limits of a lot that is not refused, beside the place of the column for its count.
-pub fn percentages(store: &[u8], lot: Columned, upper: Limit, lower: Limit) -> Percentages
-    requires { Bounded lot.totals × (out_of_range upper ≡ false) × (out_of_range lower ≡ false) × (lot.column + column_size ≤ length store.now) × Column (column_in (drop lot.column store.now)) }
-    ensures { result ≡ percentages_of nearest (column_in (drop lot.column store.now)) lot.totals upper lower }
+pub fn percentages(store: &[u8], lot: Columned, limits: LotLimits) -> Percentages
+    requires { Bounded lot.totals × (out_of_range limits.upper ≡ false) × (out_of_range limits.lower ≡ false) × (lot.column + column_size ≤ length store.now) × Column (column_in (drop lot.column store.now)) }
+    ensures { result ≡ percentages_of nearest (column_in (drop lot.column store.now)) lot.totals limits.upper limits.lower }
 {
-    let column = lot.column;
-    by_column(&store[column..column + 108], lot.totals, upper, lower)
+    by_column(&store[lot.column..lot.column + 108], lot.totals, limits)
 }
 
 // Direct evaluation, of a lent list of readings.
@@ -103,31 +96,19 @@ pub fn evaluate(
     store: &[u8],
     edition: u32,
     readings: &[i32],
-    upper: Limit,
-    lower: Limit,
-) -> Evaluation
-    ensures { evaluation_said result ≡ evaluation_says (table_in store.now edition) (lot_of upper lower readings.now) }
+    limits: LotLimits,
+) -> Result<Percentages, Refusal>
+    ensures { result ≡ evaluation_says (table_in store.now edition) (lot_of limits.upper limits.lower readings.now) }
 {
-    match with_column(
-        store,
-        named(store, edition),
-        lots::lent(readings, upper, lower),
-    ) {
-        ColumnAnswer::Refused(refusal) => Evaluation::Refused(refusal),
-        ColumnAnswer::Answers(c) => Evaluation::Answers(percentages(store, c, upper, lower)),
-    }
+    let lot = with_column(store, named(store, edition), lots::lent(readings, limits))?;
+    Ok(percentages(store, lot, limits))
 }
 
 // Direct evaluation, of a lot in memory.
-pub fn evaluate_held(store: &[u8], edition: u32, lot: HeldLot) -> Evaluation
-    ensures { evaluation_said result ≡ evaluation_says (table_in store.now edition) (lot_in lot) }
+pub fn evaluate_held(store: &[u8], edition: u32, lot: HeldLot) -> Result<Percentages, Refusal>
+    ensures { result ≡ evaluation_says (table_in store.now edition) (lot_in lot) }
 {
-    match with_column(store, named(store, edition), lots::held(lot)) {
-        ColumnAnswer::Refused(refusal) => Evaluation::Refused(refusal),
-        ColumnAnswer::Answers(c) => {
-            let upper = lot.upper;
-            let lower = lot.lower;
-            Evaluation::Answers(percentages(store, c, upper, lower))
-        }
-    }
+    let limits = lot.limits();
+    let lot = with_column(store, named(store, edition), lots::held(lot))?;
+    Ok(percentages(store, lot, limits))
 }

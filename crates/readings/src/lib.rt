@@ -7,20 +7,12 @@ ghost use Rattle.std.proofs.Common.{SFits};
 ghost use Rattle.rules.specs.Lot.{most};
 ghost use Rattle.rules.specs.Percent.{spread};
 ghost use Rattle.rules.specs.Deviation.{before_midpoint_above, deviation};
-ghost use Rattle.rules.specs.Answers.{totals_said, mean_said, deviation_said};
 ghost use Rattle.rules.specs.Entries.{mean_says, deviation_says};
 ghost use Rattle.laws.specs.Totalled.{pass_says, walk_says, totals_says};
 ghost use Rattle.laws.specs.Bounds.{Bounded, SpreadInBounds};
 
-use refusals::{allowed, in_range_32};
-use rules::{DeviationAnswer, Mean, MeanAnswer, Refusal, Thousandths, Totals, TotalsAnswer};
-
-// A number without its sign. Inner: it takes any number, but it is no entry.
-pub fn magnitude(z: i64) -> u64
-    ensures { result ≡ nat_abs z }
-{
-    if z < 0 { (-1 - z) as u64 + 1 } else { z as u64 }
-}
+use refusals::{allowed, in_range};
+use rules::{Mean, Refusal, Thousandths, Totals};
 
 // T and Z with one reading more; n is the count of all the readings and stays.
 fn step(a: Totals, x: i64) -> Totals
@@ -35,46 +27,44 @@ fn step(a: Totals, x: i64) -> Totals
 }
 
 // One reading more, or 5 where it is out of range. Inner: a walk passes sums of no more readings than a lot can hold.
-pub fn pass(a: Totals, x: i32) -> TotalsAnswer
+#[tactic(auto, unfolding(laws::specs::Totalled::pass_says))]
+pub fn pass(a: Totals, x: i32) -> Result<Totals, Refusal>
     requires { (nat_abs a.t ≤ most * 500000) × (nat_abs a.z ≤ most * 250000000000) }
-    ensures { totals_said result ≡ pass_says a x }
+    ensures { result ≡ pass_says a x }
 {
-    if in_range_32(x) {
-        TotalsAnswer::Answers(step(a, x as i64))
+    let x = i64::from(x);
+    if in_range(x) {
+        Ok(step(a, x))
     } else {
-        TotalsAnswer::Refused(Refusal::Range)
+        Err(Refusal::Range)
     }
 }
 
 // n, T and Z in one pass, which stops at a reading out of range: 5. Inner: who asks passes no more readings than a lot can hold.
-pub fn walk(readings: &[i32]) -> TotalsAnswer
+pub fn walk(readings: &[i32]) -> Result<Totals, Refusal>
     requires { length readings.now ≤ most }
-    ensures { totals_said result ≡ walk_says readings.now }
+    ensures { result ≡ walk_says readings.now }
 {
     let mut a = Totals {
         n: readings.len() as u32,
         t: 0,
         z: 0,
     };
-    let mut i = 0;
-    while i < readings.len() {
-        match pass(a, readings[i]) {
-            TotalsAnswer::Refused(refusal) => return TotalsAnswer::Refused(refusal),
-            TotalsAnswer::Answers(more) => a = more,
-        }
-        i += 1;
+    for &x in readings {
+        a = pass(a, x)?;
     }
-    TotalsAnswer::Answers(a)
+    Ok(a)
 }
 
 // n, T and Z of readings, or the refusal that they meet: 4 or 5.
-pub fn totals(readings: &[i32]) -> TotalsAnswer
-    ensures { totals_said result ≡ totals_says readings.now }
+#[tactic(auto, unfolding(rules::specs::Said::ruled, rules::specs::Meets::readings_meet, laws::specs::Totalled::walk_says, laws::specs::Totalled::totals_says))]
+pub fn totals(readings: &[i32]) -> Result<Totals, Refusal>
+    ensures { result ≡ totals_says readings.now }
 {
     if allowed(readings.len()) {
         walk(readings)
     } else {
-        TotalsAnswer::Refused(Refusal::Count)
+        Err(Refusal::Count)
     }
 }
 
@@ -90,7 +80,7 @@ pub fn spread(a: Totals) -> u64
     requires { Bounded a }
     ensures { pos result ≡ spread a }
 {
-    magnitude(difference(a.n as i64, a.t, a.z))
+    difference(i64::from(a.n), a.t, a.z).unsigned_abs()
 }
 
 // 4V < (2s+1)²·n·(n−1)
@@ -114,26 +104,20 @@ pub fn rounded(n: u64, v: u64) -> u64
 }
 
 // The mean, unrounded.
-pub fn mean(readings: &[i32]) -> MeanAnswer
-    ensures { mean_said result ≡ mean_says readings.now }
+pub fn mean(readings: &[i32]) -> Result<Mean, Refusal>
+    ensures { result ≡ mean_says readings.now }
 {
-    match totals(readings) {
-        TotalsAnswer::Refused(refusal) => MeanAnswer::Refused(refusal),
-        TotalsAnswer::Answers(a) => MeanAnswer::Answers(Mean {
-            total: Thousandths(a.t as i32),
-            count: a.n,
-        }),
-    }
+    let a = totals(readings)?;
+    Ok(Mean {
+        total: Thousandths(a.t as i32),
+        count: a.n,
+    })
 }
 
 // The deviation, rounded to the nearest thousandth. It is shown to people; no lookup uses it.
-pub fn deviation(readings: &[i32]) -> DeviationAnswer
-    ensures { deviation_said result ≡ deviation_says readings.now }
+pub fn deviation(readings: &[i32]) -> Result<Thousandths, Refusal>
+    ensures { result ≡ deviation_says readings.now }
 {
-    match totals(readings) {
-        TotalsAnswer::Refused(refusal) => DeviationAnswer::Refused(refusal),
-        TotalsAnswer::Answers(a) => {
-            DeviationAnswer::Answers(Thousandths(rounded(a.n as u64, spread(a)) as i32))
-        }
-    }
+    let a = totals(readings)?;
+    Ok(Thousandths(rounded(a.n as u64, spread(a)) as i32))
 }

@@ -6,9 +6,11 @@ ghost use Rattle.rules.specs.Units.{in_range};
 ghost use Rattle.rules.specs.Said.{checked};
 ghost use Rattle.rules.specs.Refusals.{allowed, out_of_range, outside, pay_case};
 ghost use Rattle.rules.specs.Meets.{limits_meet, pay_meets};
-ghost use Rattle.rules.specs.Answers.{outcome_said};
 
-use rules::{Cents, HUNDRED_PERCENT, HundredthTons, Hundredths, Limit, MOST, Outcome, Refusal};
+use rules::{
+    Cents, Characteristics, HUNDRED_PERCENT, HundredthTons, Hundredths, Limit, LotLimits, MOST,
+    Refusal,
+};
 
 // n is 2 to 17.
 pub fn allowed(n: usize) -> bool
@@ -24,52 +26,28 @@ pub fn in_range(z: i64) -> bool
     (-500000 <= z) & (z <= 500000)
 }
 
-// The same range, for a number of 32 bits, as every reading and limit is.
-pub fn in_range_32(x: i32) -> bool
-    ensures { result ≡ in_range x }
-{
-    (-500000 <= x) & (x <= 500000)
-}
-
 fn out_of_range(limit: Limit) -> bool
     ensures { result ≡ out_of_range limit }
 {
-    match limit {
-        Limit::Absent => false,
-        Limit::At(z) => !in_range_32(z.0),
-    }
+    limit.is_some_and(|z| !in_range(i64::from(z.0)))
 }
 
 // 5, of limits: a present one out of range.
-pub fn limits_out(upper: Limit, lower: Limit) -> bool
-    ensures { result ≡ (out_of_range upper || out_of_range lower) }
+pub fn limits_out(limits: LotLimits) -> bool
+    ensures { result ≡ (out_of_range limits.upper || out_of_range limits.lower) }
 {
-    if out_of_range(upper) {
-        true
-    } else {
-        out_of_range(lower)
-    }
+    out_of_range(limits.upper) || out_of_range(limits.lower)
 }
 
 // What limits in range can meet: 6 and 7.
-pub fn limits(upper: Limit, lower: Limit) -> Outcome
-    ensures { outcome_said result ≡ checked (limits_meet upper lower) }
+#[tactic(auto, unfolding(rules::specs::Said::ruled))]
+pub fn limits(limits: LotLimits) -> Result<(), Refusal>
+    ensures { result ≡ checked (limits_meet limits.upper limits.lower) }
 {
-    match upper {
-        Limit::Absent => match lower {
-            Limit::Absent => Outcome::Refused(Refusal::Unlimited),
-            Limit::At(_) => Outcome::Answers,
-        },
-        Limit::At(u) => match lower {
-            Limit::Absent => Outcome::Answers,
-            Limit::At(l) => {
-                if u.0 < l.0 {
-                    Outcome::Refused(Refusal::Crossed)
-                } else {
-                    Outcome::Answers
-                }
-            }
-        },
+    match (limits.upper, limits.lower) {
+        (None, None) => Err(Refusal::Unlimited),
+        (Some(u), Some(l)) if u.0 < l.0 => Err(Refusal::Crossed),
+        _ => Ok(()),
     }
 }
 
@@ -81,35 +59,27 @@ pub fn outside(greatest: i64, z: i64) -> bool
 }
 
 // A number below 0, a PWL above 10,000, price above 10,000,000 or quantity above 100,000,000.
-fn unpayable(
-    vma: Hundredths,
-    voids: Hundredths,
-    density: Hundredths,
-    price: Cents,
-    quantity: HundredthTons,
-) -> bool
-    ensures { result ≡ (pay_case vma.0 voids.0 density.0 price.0 quantity.0).applies }
+fn unpayable(pwls: Characteristics<Hundredths>, price: Cents, quantity: HundredthTons) -> bool
+    ensures { result ≡ (pay_case pwls.vma.0 pwls.voids.0 pwls.density.0 price.0 quantity.0).applies }
 {
-    outside(HUNDRED_PERCENT, vma.0)
-        | outside(HUNDRED_PERCENT, voids.0)
-        | outside(HUNDRED_PERCENT, density.0)
+    outside(HUNDRED_PERCENT, pwls.vma.0)
+        | outside(HUNDRED_PERCENT, pwls.voids.0)
+        | outside(HUNDRED_PERCENT, pwls.density.0)
         | outside(10000000, price.0)
         | outside(100000000, quantity.0)
 }
 
 // What pay can meet: 9.
+#[tactic(auto, unfolding(rules::specs::Said::ruled, rules::specs::Meets::pay_meets))]
 pub fn pay(
-    vma: Hundredths,
-    voids: Hundredths,
-    density: Hundredths,
+    pwls: Characteristics<Hundredths>,
     price: Cents,
     quantity: HundredthTons,
-) -> Outcome
-    ensures { outcome_said result ≡ checked (pay_meets vma.0 voids.0 density.0 price.0 quantity.0) }
+) -> Result<(), Refusal>
+    ensures { result ≡ checked (pay_meets pwls.vma.0 pwls.voids.0 pwls.density.0 price.0 quantity.0) }
 {
-    if unpayable(vma, voids, density, price, quantity) {
-        Outcome::Refused(Refusal::Number)
-    } else {
-        Outcome::Answers
+    if unpayable(pwls, price, quantity) {
+        return Err(Refusal::Number);
     }
+    Ok(())
 }

@@ -1,8 +1,8 @@
 -- Document 02, R-4: what is said of a sheet beside three lots, a price and a quantity, and of two sheets.
-use Rattle.std.specs.Prelude.{List, [], ◌∷◌, ◌++◌, ℕ, ℤ, length}
+use Rattle.std.specs.Prelude.{List, [], ◌∷◌, ◌++◌, ℕ, ℤ, length, Option}
 use Rattle.rules.specs.declared.Hundredths.{Hundredths}
 use Rattle.rules.specs.declared.Sheet.{Sheet}
-use Rattle.rules.specs.declared.Finding.{Finding}
+use Rattle.rules.specs.declared.Difference.{Difference}
 use Rattle.rules.specs.Units.{hundredths}
 use Rattle.rules.specs.Said.{Said, Case, ruled}
 use Rattle.rules.specs.Lot.{Lot}
@@ -43,7 +43,7 @@ module _ (table : Table) (vma voids density : Lot) (price quantity : ℤ) where
   ours_says = ruled our_meets our_sheet
 
   -- The refusal of a sheet comes last. Of two numbers the sheet's stands first, then ours.
-  unfoldable pub check_says : Sheet → Said Finding
+  unfoldable pub check_says : Sheet → Said (Option Difference)
   check_says sheet = ruled (our_meets ++ (sheet_case sheet ∷ [])) (first_of (differences sheet our_sheet))
 
 -- ---- two sheets compared, into a lent list of numbers: 9 and then 8

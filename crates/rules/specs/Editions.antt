@@ -1,6 +1,6 @@
 -- Document 02, R-5: what is said where an edition is stored, found, listed or written, and what the lent bytes are then.
-use Rattle.std.specs.Prelude.{List, [], ◌∷◌, ℕ, ◌-◌, length}
-use Rattle.rules.specs.Said.{Said, refused, answers, Case, ruled}
+use Rattle.std.specs.Prelude.{List, [], ◌∷◌, ℕ, ◌-◌, length, Ok, Err}
+use Rattle.rules.specs.Said.{Said, Case, ruled}
 use Rattle.rules.specs.Edition.{edition_106_1}
 use Rattle.rules.specs.Store.{editions, numbers, start_in, size_of, stored_at}
 use Rattle.rules.specs.Refusals.{room_case, sound_case, accepted_case, rising_case, ninth_case, named_case}
@@ -22,8 +22,8 @@ storing_says s e = ruled (storing_meets s e) (size_of (editions s))
 
 -- The buffer then: as it was where the edition is refused; else the entry stands where the store ended.
 unfoldable pub left_by : Said ℕ → List ℕ → List ℕ → List ℕ
-left_by (refused r) s e = s
-left_by (answers start) s e = stored_at start e s
+left_by (Err r) s e = s
+left_by (Ok start) s e = stored_at start e s
 
 abbrev pub after_storing : List ℕ → List ℕ → List ℕ
 after_storing s e = left_by (storing_says s e) s e

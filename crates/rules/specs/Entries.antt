@@ -1,17 +1,16 @@
 -- What each entry says, for whatever comes in: of the refusals that it can meet, the first that applies; else its values.
-use Rattle.std.specs.Prelude.{List, ◌++◌, ℕ, ℤ, pos, length, drop, replicate}
+use Rattle.std.specs.Prelude.{List, ◌++◌, ℕ, ℤ, pos, length, drop, replicate, None, Ok, Err}
 use Rattle.rules.specs.declared.Thousandths.{Thousandths}
-use Rattle.rules.specs.declared.Limit.{Limit}
-use Rattle.rules.specs.declared.Limit.TheVariants.{Absent}
+use Rattle.rules.specs.Units.{Limit, thousandths, hundredths}
 use Rattle.rules.specs.declared.HeldLot.{HeldLot}
 use Rattle.rules.specs.declared.Totals.{Totals}
 use Rattle.rules.specs.declared.Mean.{Mean}
 use Rattle.rules.specs.declared.Percentages.{Percentages}
 use Rattle.rules.specs.declared.Payment.{Payment}
-use Rattle.rules.specs.declared.MixtureLimits.{MixtureLimits}
+use Rattle.rules.specs.declared.Characteristics.{Characteristics}
+use Rattle.rules.specs.declared.Pair.{Pair}
 use Rattle.rules.specs.declared.Row.{Row}
-use Rattle.rules.specs.Units.{thousandths, hundredths}
-use Rattle.rules.specs.Said.{Said, refused, answers, ruled}
+use Rattle.rules.specs.Said.{Said, ruled}
 use Rattle.rules.specs.Lot.{Lot, most, in_places}
 use Rattle.rules.specs.Table.{Table, Found, entries}
 use Rattle.rules.specs.Percent.{Rule, nearest, totals, sum, spread, upper_side, lower_side, within}
@@ -23,7 +22,6 @@ use Rattle.rules.specs.Record.{lot_of_record, record_of}
 use Rattle.rules.specs.Job.{cut, item_numbers}
 use Rattle.rules.specs.Meets.{readings_meet, evaluation_meets, row_meets, read_meets, write_meets, pay_meets, mixture_meets, cut_meets}
 use Rattle.rules.specs.Notebook.{lent_lot, row_of}
-use Rattle.rules.specs.Answers.{ReadSaid}
 
 -- ---- mean and deviation
 
@@ -70,8 +68,8 @@ read_says bs = ruled (read_meets bs) (lot_of_record bs)
 
 -- The lot in memory that a read leaves: zeros in the places past its readings, and a blank lot where the record is refused.
 unfoldable pub held : Said Lot → HeldLot
-held (refused r) = record { upper = Absent; lower = Absent; count = 0; readings = replicate most (thousandths (pos 0)) }
-held (answers lot) =
+held (Err r) = record { upper = None; lower = None; count = 0; readings = replicate most (thousandths (pos 0)) }
+held (Ok lot) =
     record {
       upper = lot.upper;
       lower = lot.lower;
@@ -80,8 +78,18 @@ held (answers lot) =
     }
 
 abbrev pub bare : {A : Type 0} → Said A → Said (Unit {0})
-bare (refused r) = refused r
-bare (answers a) = answers tt
+bare (Err r) = Err r
+bare (Ok a) = Ok tt
+
+-- what is said of a record, and the lot in memory that is left beside it
+pub record ReadSaid : Type 0 where
+  pub said : Said (Unit {0})
+  pub lot : HeldLot
+
+-- what the answer of a read leaves: the lot that was read, or a blank one beside the refusal
+abbrev pub read_said : Said HeldLot → ReadSaid
+read_said (Err r) = record { said = Err r; lot = held (Err r) }
+read_said (Ok lot) = record { said = Ok tt; lot = lot }
 
 -- the refusal, or that there is none, beside that lot in memory
 abbrev pub beside : Said Lot → ReadSaid
@@ -96,8 +104,8 @@ write_says lot out = ruled (write_meets lot (length out)) (length (record_of lot
 
 -- A lent list after a write: as it was where the write is refused; else what was to be written, and after it the rest as it was.
 unfoldable pub written : {A B : Type 0} → List A → List A → Said B → List A
-written new out (refused r) = out
-written new out (answers b) = new ++ drop (length new) out
+written new out (Err r) = out
+written new out (Ok b) = new ++ drop (length new) out
 
 abbrev pub after_write : Lot → List ℕ → List ℕ
 after_write lot out = written (record_of lot) out (write_says lot out)
@@ -108,7 +116,7 @@ unfoldable pub pay_says : ℤ → ℤ → ℤ → ℤ → ℤ → Said Payment
 pay_says vma voids density price quantity =
     ruled (pay_meets vma voids density price quantity) (payment vma voids density price quantity)
 
-unfoldable pub mixture_says : ℤ → ℤ → ℤ → Said MixtureLimits
+unfoldable pub mixture_says : ℤ → ℤ → ℤ → Said (Characteristics (Pair Thousandths))
 mixture_says mixture minimum target =
     ruled (mixture_meets mixture minimum target) (mixture_limits mixture minimum target)
 

@@ -1,9 +1,8 @@
 -- Document 02, R-3: the handheld finds the row by halving the range of rows, and how many rows it tries is reported with a side's percentage.
-use Rattle.std.specs.Prelude.{Bool, cond, ℕ, zero, suc, ◌+◌, ◌-◌, ◌/◌, ltb, ℤ, pos}
+use Rattle.std.specs.Prelude.{Bool, cond, ℕ, zero, suc, ◌+◌, ◌-◌, ◌/◌, ltb, ℤ, pos, Some, None}
 use Rattle.std.specs.Int.Signed.{lt_z}
 use Rattle.rules.specs.declared.Totals.{Totals}
-use Rattle.rules.specs.declared.Limit.{Limit}
-use Rattle.rules.specs.declared.Limit.TheVariants.{Absent, At}
+use Rattle.rules.specs.Units.{Limit}
 use Rattle.rules.specs.Table.{last_row}
 use Rattle.rules.specs.Percent.{spread, upper_distance, lower_distance, admits}
 
@@ -47,9 +46,9 @@ rows_tried n v d = cond (lt_z (pos 0) v) (handheld n v d).tried 0
 
 -- and 0 where the limit is absent.
 unfoldable pub upper_tried : Totals → Limit → ℕ
-upper_tried a Absent = 0
-upper_tried a (At u) = rows_tried a.n (spread a) (upper_distance a u.0)
+upper_tried a None = 0
+upper_tried a (Some u) = rows_tried a.n (spread a) (upper_distance a u.0)
 
 unfoldable pub lower_tried : Totals → Limit → ℕ
-lower_tried a Absent = 0
-lower_tried a (At l) = rows_tried a.n (spread a) (lower_distance a l.0)
+lower_tried a None = 0
+lower_tried a (Some l) = rows_tried a.n (spread a) (lower_distance a l.0)

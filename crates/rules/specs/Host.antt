@@ -1,16 +1,15 @@
 -- What each entry gives a host, in plain numbers, in the manner of document 01's notebook. The refusal stands first; where an entry refuses,
 -- every other number is 0.
-use Rattle.std.specs.Prelude.{List, [], ◌∷◌, map, ℕ, ℤ, pos, get_or}
+use Rattle.std.specs.Prelude.{List, [], ◌∷◌, map, ℕ, ℤ, pos, get_or, Some, None, Ok, Err}
 use Rattle.rules.specs.declared.Thousandths.{Thousandths}
-use Rattle.rules.specs.declared.Limit.{Limit}
-use Rattle.rules.specs.declared.Limit.TheVariants.{Absent, At}
+use Rattle.rules.specs.Units.{Limit, thousandths}
 use Rattle.rules.specs.declared.HeldLot.{HeldLot}
 use Rattle.rules.specs.declared.Mean.{Mean}
 use Rattle.rules.specs.declared.Percentages.{Percentages}
 use Rattle.rules.specs.declared.Payment.{Payment}
-use Rattle.rules.specs.declared.Limits.{Limits}
+use Rattle.rules.specs.declared.Pair.{Pair}
 use Rattle.rules.specs.declared.Row.{Row}
-use Rattle.rules.specs.declared.MixtureLimits.{MixtureLimits}
+use Rattle.rules.specs.declared.Characteristics.{Characteristics}
 use Rattle.rules.specs.declared.Refusal.{Refusal}
 use Rattle.rules.specs.declared.host.HostRefusal.{HostRefusal}
 use Rattle.rules.specs.declared.host.HostLimit.{HostLimit}
@@ -26,15 +25,13 @@ use Rattle.rules.specs.declared.host.HostWritten.{HostWritten}
 use Rattle.rules.specs.declared.host.HostListed.{HostListed}
 use Rattle.rules.specs.declared.host.HostPlace.{HostPlace}
 use Rattle.rules.specs.declared.host.HostRow.{HostRow}
-use Rattle.rules.specs.Units.{thousandths}
-use Rattle.rules.specs.Said.{Said, refused, answers}
+use Rattle.rules.specs.Said.{Said}
 use Rattle.rules.specs.Lot.{Lot, lot_of, places}
 use Rattle.rules.specs.Table.{Table}
 use Rattle.rules.specs.Sheet.{verdict_number}
 use Rattle.rules.specs.Refusals.{number_of}
 use Rattle.rules.specs.Notebook.{lent_limit, mean_asked, deviation_asked, pwl_asked}
-use Rattle.rules.specs.Answers.{ReadSaid}
-use Rattle.rules.specs.Entries.{row_says}
+use Rattle.rules.specs.Entries.{ReadSaid, row_says}
 
 -- The part with which every answer begins: the refusal's number, 0 for none.
 abbrev pub refusal_part : Refusal → HostRefusal
@@ -44,21 +41,21 @@ abbrev pub no_refusal : HostRefusal
 no_refusal = record { number = 0 }
 
 abbrev pub host_refusal : {A : Type 0} → Said A → HostRefusal
-host_refusal (refused r) = refusal_part r
-host_refusal (answers a) = no_refusal
+host_refusal (Err r) = refusal_part r
+host_refusal (Ok a) = no_refusal
 
 abbrev pub host_mean : Said Mean → HostMean
-host_mean (refused r) = record { refusal = refusal_part r; total = pos 0; count = 0 }
-host_mean (answers m) = record { refusal = no_refusal; total = m.total.0; count = m.count }
+host_mean (Err r) = record { refusal = refusal_part r; total = pos 0; count = 0 }
+host_mean (Ok m) = record { refusal = no_refusal; total = m.total.0; count = m.count }
 
 abbrev pub host_deviation : Said Thousandths → HostDeviation
-host_deviation (refused r) = record { refusal = refusal_part r; deviation = pos 0 }
-host_deviation (answers s) = record { refusal = no_refusal; deviation = s.0 }
+host_deviation (Err r) = record { refusal = refusal_part r; deviation = pos 0 }
+host_deviation (Ok s) = record { refusal = no_refusal; deviation = s.0 }
 
 abbrev pub host_percentages : Said Percentages → HostPercentages
-host_percentages (refused r) =
+host_percentages (Err r) =
     record { refusal = refusal_part r; upper = pos 0; lower = pos 0; pwl = pos 0; tried = record { upper = 0; lower = 0 } }
-host_percentages (answers p) =
+host_percentages (Ok p) =
     record {
       refusal = no_refusal;
       upper = p.upper.0;
@@ -68,9 +65,9 @@ host_percentages (answers p) =
     }
 
 abbrev pub host_payment : Said Payment → HostPayment
-host_payment (refused r) =
+host_payment (Err r) =
     record { refusal = refusal_part r; composite = pos 0; vma = 0; voids = 0; density = 0; lot = 0; pay = pos 0 }
-host_payment (answers p) =
+host_payment (Ok p) =
     record {
       refusal = no_refusal;
       composite = p.composite.0;
@@ -81,14 +78,14 @@ host_payment (answers p) =
       pay = p.pay.0;
     }
 
-abbrev pub host_pair : Limits → HostPair
+abbrev pub host_pair : Pair Thousandths → HostPair
 host_pair l = record { lower = l.lower.0; upper = l.upper.0 }
 
-abbrev pub host_mixture_limits : Said MixtureLimits → HostMixtureLimits
-host_mixture_limits (refused r) =
+abbrev pub host_mixture_limits : Said (Characteristics (Pair Thousandths)) → HostMixtureLimits
+host_mixture_limits (Err r) =
     let none : HostPair = record { lower = pos 0; upper = pos 0 } in
     record { refusal = refusal_part r; vma = none; voids = none; density = none }
-host_mixture_limits (answers l) =
+host_mixture_limits (Ok l) =
     record { refusal = no_refusal; vma = host_pair l.vma; voids = host_pair l.voids; density = host_pair l.density }
 
 -- ---- readings with limits, as numbers and presences
@@ -123,8 +120,8 @@ held_lot h =
 
 -- a limit as a host's numbers
 abbrev pub limit_numbers : Limit → HostLimit
-limit_numbers Absent = record { number = pos 0; presence = 0 }
-limit_numbers (At z) = record { number = z.0; presence = 1 }
+limit_numbers None = record { number = pos 0; presence = 0 }
+limit_numbers (Some z) = record { number = z.0; presence = 1 }
 
 unfoldable pub host_lot : HeldLot → HostLot
 host_lot held =
@@ -156,16 +153,16 @@ abbrev pub host_read : ReadSaid → HostRead
 host_read r = record { refusal = host_refusal r.said; lot = host_lot r.lot }
 
 abbrev pub host_written : Said ℕ → HostWritten
-host_written (refused r) = record { refusal = refusal_part r; size = 0 }
-host_written (answers size) = record { refusal = no_refusal; size = size }
+host_written (Err r) = record { refusal = refusal_part r; size = 0 }
+host_written (Ok size) = record { refusal = no_refusal; size = size }
 
 abbrev pub host_listed : Said ℕ → HostListed
-host_listed (refused r) = record { refusal = refusal_part r; items = 0 }
-host_listed (answers items) = record { refusal = no_refusal; items = items }
+host_listed (Err r) = record { refusal = refusal_part r; items = 0 }
+host_listed (Ok items) = record { refusal = no_refusal; items = items }
 
 abbrev pub host_place : Said ℕ → HostPlace
-host_place (refused r) = record { refusal = refusal_part r; start = 0 }
-host_place (answers start) = record { refusal = no_refusal; start = start }
+host_place (Err r) = record { refusal = refusal_part r; start = 0 }
+host_place (Ok start) = record { refusal = no_refusal; start = start }
 
 -- The notebook's row in one answer: each double is the one that its own call gives.
 abbrev pub host_row : Said Row → HostRow

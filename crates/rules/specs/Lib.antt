@@ -16,7 +16,6 @@ pub mod Mixture
 pub mod Refusals
 pub mod Meets
 pub mod Notebook
-pub mod Answers
 pub mod Entries
 pub mod Check
 pub mod Editions

@@ -2,9 +2,8 @@
 -- it can hold; that is refusal 4.
 use Rattle.std.specs.Prelude.{List, ◌++◌, map, ℕ, ◌-◌, ℤ, pos, length, take, replicate}
 use Rattle.rules.specs.declared.Thousandths.{Thousandths}
-use Rattle.rules.specs.declared.Limit.{Limit}
+use Rattle.rules.specs.Units.{Limit, thousandths}
 use Rattle.rules.specs.declared.HeldLot.{HeldLot}
-use Rattle.rules.specs.Units.{thousandths}
 
 -- the most readings that a lot can hold
 abbrev pub most : ℕ

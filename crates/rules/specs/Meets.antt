@@ -1,7 +1,6 @@
 -- Document 01, "Numbers of refusal", and document 02, R-1 and R-5: the refusals that each entry can meet, in the order in which they are looked for.
-use Rattle.std.specs.Prelude.{List, [], ◌∷◌, ◌++◌, ℕ, ℤ, length}
-use Rattle.rules.specs.declared.Limit.{Limit}
-use Rattle.rules.specs.declared.Limit.TheVariants.{Absent}
+use Rattle.std.specs.Prelude.{List, [], ◌∷◌, ◌++◌, ℕ, ℤ, length, None}
+use Rattle.rules.specs.Units.{Limit}
 use Rattle.rules.specs.Said.{Case}
 use Rattle.rules.specs.Lot.{Lot}
 use Rattle.rules.specs.Table.{Found}
@@ -11,7 +10,7 @@ use Rattle.rules.specs.Refusals.{size_case, version_case, flags_case, count_case
 
 -- mean and deviation alone: 4 and 5
 unfoldable pub readings_meet : List ℤ → List Case
-readings_meet xs = count_case (length xs) ∷ range_case Absent Absent xs ∷ []
+readings_meet xs = count_case (length xs) ∷ range_case None None xs ∷ []
 
 -- limits in range: 6 and 7
 abbrev pub limits_meet : Limit → Limit → List Case

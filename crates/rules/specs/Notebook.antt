@@ -1,10 +1,10 @@
 -- Document 01, "The notebook": readings as bytes, a limit as a number and a presence, and the row of three doubles.
-use Rattle.std.specs.Prelude.{false, not, List, ℕ, ◌*◌, ◌/◌, eqb, ℤ, pos, length, Float}
+use Rattle.std.specs.Prelude.{false, not, List, ℕ, ◌*◌, ◌/◌, eqb, ℤ, pos, length, Float, Ok, Err}
 use Rattle.std.specs.Float.Ieee as Ieee
 use Rattle.std.specs.Float.{fin, binary64}
-use Rattle.rules.specs.declared.Limit.{Limit}
+use Rattle.rules.specs.Units.{Limit}
 use Rattle.rules.specs.declared.Row.{Row}
-use Rattle.rules.specs.Said.{Said, refused, answers}
+use Rattle.rules.specs.Said.{Said}
 use Rattle.rules.specs.Lot.{Lot}
 use Rattle.rules.specs.Record.{fours, limit_of}
 
@@ -27,8 +27,8 @@ row_of t n s pwl = record { mean = over t (1000 * n); deviation = over s 1000; p
 
 -- one double of a row: 0 where the lot is refused
 abbrev pub double_asked : (Row → Float) → Said Row → Float
-double_asked f (refused r) = fin false 0 (pos 0)
-double_asked f (answers row) = f row
+double_asked f (Err r) = fin false 0 (pos 0)
+double_asked f (Ok row) = f row
 
 abbrev pub mean_asked : Said Row → Float
 mean_asked said = double_asked (λ (row : Row). row.mean) said

@@ -1,11 +1,9 @@
 -- Document 01, "From readings to PWL", with its letters in lower case: n the count, t the sum, z the sum of squares,
 -- v the spread, d a distance, k a row, e an entry.
-use Rattle.std.specs.Prelude.{Bool, cond, ◌||◌, List, [], ◌∷◌, ℕ, zero, suc, ◌-◌, ◌*◌, eqb, ℤ, pos, ◌+ℤ◌, ◌-ℤ◌, ◌*ℤ◌}
+use Rattle.std.specs.Prelude.{Bool, cond, ◌||◌, List, [], ◌∷◌, ℕ, zero, suc, ◌-◌, ◌*◌, eqb, ℤ, pos, ◌+ℤ◌, ◌-ℤ◌, ◌*ℤ◌, Some, None}
 use Rattle.std.specs.Int.Signed.{le_z, lt_z}
 use Rattle.rules.specs.declared.Totals.{Totals}
-use Rattle.rules.specs.declared.Limit.{Limit}
-use Rattle.rules.specs.declared.Limit.TheVariants.{Absent, At}
-use Rattle.rules.specs.Units.{hundred_percent}
+use Rattle.rules.specs.Units.{Limit, hundred_percent}
 use Rattle.rules.specs.Table.{entry, last_row}
 
 -- T
@@ -70,12 +68,12 @@ module _ (rule : Rule) (column : List ℕ) where
 
   -- an absent limit's side is 10,000
   unfoldable pub upper_side : Totals → Limit → ℤ
-  upper_side a Absent = hundred_percent
-  upper_side a (At u) = side a.n (spread a) (upper_distance a u.0)
+  upper_side a None = hundred_percent
+  upper_side a (Some u) = side a.n (spread a) (upper_distance a u.0)
 
   unfoldable pub lower_side : Totals → Limit → ℤ
-  lower_side a Absent = hundred_percent
-  lower_side a (At l) = side a.n (spread a) (lower_distance a l.0)
+  lower_side a None = hundred_percent
+  lower_side a (Some l) = side a.n (spread a) (lower_distance a l.0)
 
 -- PWL = upper + lower − 10,000
 abbrev pub within : ℤ → ℤ → ℤ

@@ -1,10 +1,8 @@
 -- Document 01, "The lot record": the bytes of a lot, and the lot of some bytes.
-use Rattle.std.specs.Prelude.{Bool, cond, List, [], ◌∷◌, ◌++◌, ℕ, zero, suc, ◌+◌, ◌*◌, ◌/◌, ◌%◌, ◌^◌, eqb, ℤ, take, drop, get_or, replicate}
+use Rattle.std.specs.Prelude.{Bool, cond, List, [], ◌∷◌, ◌++◌, ℕ, zero, suc, ◌+◌, ◌*◌, ◌/◌, ◌%◌, ◌^◌, eqb, ℤ, take, drop, get_or, replicate, Some, None}
 use Rattle.std.specs.Int.{w32}
 use Rattle.std.proofs.Common.{to_z, of_z}
-use Rattle.rules.specs.declared.Limit.{Limit}
-use Rattle.rules.specs.declared.Limit.TheVariants.{Absent, At}
-use Rattle.rules.specs.Units.{thousandths}
+use Rattle.rules.specs.Units.{Limit, thousandths}
 use Rattle.rules.specs.Lot.{Lot}
 
 -- ---- big-endian numbers
@@ -78,7 +76,7 @@ abbrev pub n_field : List ℕ → ℕ
 n_field bs = get_or bs 12 0
 
 abbrev pub limit_of : Bool → ℤ → Limit
-limit_of present z = cond present (At (thousandths z)) Absent
+limit_of present z = cond present (Some (thousandths z)) None
 
 -- 13 bytes stand before the readings
 abbrev pub head_size : ℕ
@@ -102,13 +100,13 @@ abbrev pub length_of : ℕ → ℕ
 length_of n = 11 + 4 * n
 
 abbrev pub bit : Limit → ℕ
-bit Absent = 0
-bit (At z) = 1
+bit None = 0
+bit (Some z) = 1
 
 -- the four bytes of a limit: all zero when it is absent
 abbrev pub limit_bytes : Limit → List ℕ
-limit_bytes Absent = replicate 4 0
-limit_bytes (At z) = in_four z.0
+limit_bytes None = replicate 4 0
+limit_bytes (Some z) = in_four z.0
 
 -- the 13 bytes before the readings
 unfoldable pub head_of : ℕ → Limit → Limit → List ℕ

@@ -1,13 +1,11 @@
 -- Document 01, "Numbers of refusal", as document 02, R-1, R-4 and R-5, amends it: the table, a definition for each line of it.
-use Rattle.std.specs.Prelude.{Bool, true, false, not, ◌&&◌, ◌||◌, List, [], ◌∷◌, ℕ, ◌/◌, ◌%◌, ◌-◌, leb, ltb, eqb, ℤ, pos, length}
+use Rattle.std.specs.Prelude.{Bool, true, false, not, ◌&&◌, ◌||◌, List, [], ◌∷◌, ℕ, ◌/◌, ◌%◌, ◌-◌, leb, ltb, eqb, ℤ, pos, length, Some, None}
 use Rattle.std.specs.Int.Signed.{lt_z}
-use Rattle.rules.specs.declared.Limit.{Limit}
-use Rattle.rules.specs.declared.Limit.TheVariants.{Absent, At}
+use Rattle.rules.specs.Units.{Limit, in_range, hundred_percent}
 use Rattle.rules.specs.declared.Pair.{Pair}
 use Rattle.rules.specs.declared.Sheet.{Sheet}
 use Rattle.rules.specs.declared.Refusal.{Refusal}
 use Rattle.rules.specs.declared.Refusal.TheVariants.{Size, Version, Flags, Count, Range, Unlimited, Crossed, Room, Number, NoColumn, Unsound, NotRising, NoEdition}
-use Rattle.rules.specs.Units.{in_range, hundred_percent}
 use Rattle.rules.specs.Said.{Case}
 use Rattle.rules.specs.Lot.{most}
 use Rattle.rules.specs.Table.{Found, has_store, has_edition, has_column}
@@ -74,8 +72,8 @@ abbrev pub bytes_count_case : List ℕ → Case
 bytes_count_case bs = given_when Count (not (size_fits (length bs)))
 
 abbrev pub out_of_range : Limit → Bool
-out_of_range Absent = false
-out_of_range (At z) = not (in_range z.0)
+out_of_range None = false
+out_of_range (Some z) = not (in_range z.0)
 
 unfoldable pub any_out : List ℤ → Bool
 any_out [] = false
@@ -86,18 +84,18 @@ abbrev pub range_case : Limit → Limit → List ℤ → Case
 range_case upper lower xs = given_when Range (out_of_range upper || out_of_range lower || any_out xs)
 
 abbrev pub none : Limit → Limit → Bool
-none Absent Absent = true
-none Absent (At l) = false
-none (At u) lower = false
+none None None = true
+none None (Some l) = false
+none (Some u) lower = false
 
 -- 6: both limits absent
 abbrev pub unlimited_case : Limit → Limit → Case
 unlimited_case upper lower = given_when Unlimited (none upper lower)
 
 abbrev pub crossed : Limit → Limit → Bool
-crossed Absent lower = false
-crossed (At u) Absent = false
-crossed (At u) (At l) = lt_z u.0 l.0
+crossed None lower = false
+crossed (Some u) None = false
+crossed (Some u) (Some l) = lt_z u.0 l.0
 
 -- 7: lower above upper
 abbrev pub crossed_case : Limit → Limit → Case
@@ -125,7 +123,7 @@ pay_case vma voids density price quantity =
 abbrev pub mixture_case : ℤ → Case
 mixture_case mixture = given_when Number (outside (pos 3) mixture)
 
-abbrev pub pair_out : Pair → Bool
+abbrev pub pair_out : Pair ℤ → Bool
 pair_out p = not (in_range p.upper) || not (in_range p.lower)
 
 -- 5, in the mixture lookup: a minimum or target that puts a limit out of range

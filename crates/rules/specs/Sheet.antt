@@ -1,5 +1,5 @@
 -- Document 02, R-4: a pay sheet, the one that our rules give, and where two sheets differ.
-use Rattle.std.specs.Prelude.{Bool, cond, ◌||◌, List, [], ◌∷◌, ℕ, suc, ℤ, pos, ◌-ℤ◌}
+use Rattle.std.specs.Prelude.{Bool, cond, ◌||◌, List, [], ◌∷◌, ℕ, suc, ℤ, pos, ◌-ℤ◌, Option, Some, None}
 use Rattle.std.specs.Int.Signed.{lt_z}
 use Rattle.rules.specs.declared.Verdict.{Verdict}
 use Rattle.rules.specs.declared.Verdict.TheVariants.{Accepted, Rejected}
@@ -7,7 +7,6 @@ use Rattle.rules.specs.declared.Payment.{Payment}
 use Rattle.rules.specs.declared.SheetVerdict.{SheetVerdict}
 use Rattle.rules.specs.declared.Sheet.{Sheet}
 use Rattle.rules.specs.declared.Difference.{Difference}
-use Rattle.rules.specs.declared.Finding.{Finding}
 use Rattle.rules.specs.Units.{hundredths}
 
 -- a verdict's number: 0 accepted, 1 rejected
@@ -51,9 +50,9 @@ unfoldable pub differences : Sheet → Sheet → List Difference
 differences a b = differing 0 (sheet_numbers a) (sheet_numbers b)
 
 -- Accepted is the sheet that differs nowhere; of any other the first entry that differs is named.
-unfoldable pub first_of : List Difference → Finding
-first_of [] = Finding.Accepted
-first_of (d ∷ ds) = Finding.Differs d
+unfoldable pub first_of : List Difference → Option Difference
+first_of [] = None
+first_of (d ∷ ds) = Some d
 
 -- the numbers of some differences: of each its entry, and the first sheet's number less the second's
 unfoldable pub difference_numbers : List Difference → List ℤ

@@ -1,5 +1,5 @@
 -- Document 01, "Units": the range of readings and limits. Numbers are worked out over ℤ, and what an entry answers takes its kind at the end.
-use Rattle.std.specs.Prelude.{Bool, ◌&&◌, ℤ, pos, neg_ℤ}
+use Rattle.std.specs.Prelude.{Bool, ◌&&◌, ℤ, pos, neg_ℤ, Option}
 use Rattle.std.specs.Int.Signed.{le_z}
 use Rattle.rules.specs.declared.Thousandths.{Thousandths}
 use Rattle.rules.specs.declared.Hundredths.{Hundredths}
@@ -25,3 +25,7 @@ composite_of z = record { 0 = z }
 
 abbrev pub cents : ℤ → Cents
 cents z = record { 0 = z }
+
+-- an upper or a lower limit, which may be absent
+abbrev pub Limit : Type 0
+Limit = Option Thousandths

@@ -3,20 +3,20 @@
 
 // Why there is no answer: the refusal's number, 0 for none.
 #[repr(C)]
-#[derive(Clone, Copy)]
+#[derive(Clone, Copy, Default)]
 pub struct HostRefusal {
     pub number: u32,
 }
 
 #[repr(C)]
-#[derive(Clone, Copy)]
+#[derive(Clone, Copy, Default)]
 pub struct HostLimit {
     pub number: i32,
     pub presence: u32,
 }
 
 #[repr(C)]
-#[derive(Clone, Copy)]
+#[derive(Clone, Copy, Default)]
 pub struct HostLot {
     pub upper: HostLimit,
     pub lower: HostLimit,
@@ -41,7 +41,7 @@ pub struct HostLot {
 }
 
 #[repr(C)]
-#[derive(Clone, Copy)]
+#[derive(Clone, Copy, Default)]
 pub struct HostMean {
     pub refusal: HostRefusal,
     pub total: i32,
@@ -49,21 +49,21 @@ pub struct HostMean {
 }
 
 #[repr(C)]
-#[derive(Clone, Copy)]
+#[derive(Clone, Copy, Default)]
 pub struct HostDeviation {
     pub refusal: HostRefusal,
     pub deviation: i32,
 }
 
 #[repr(C)]
-#[derive(Clone, Copy)]
+#[derive(Clone, Copy, Default)]
 pub struct HostTried {
     pub upper: u32,
     pub lower: u32,
 }
 
 #[repr(C)]
-#[derive(Clone, Copy)]
+#[derive(Clone, Copy, Default)]
 pub struct HostPercentages {
     pub refusal: HostRefusal,
     pub upper: i64,
@@ -73,7 +73,7 @@ pub struct HostPercentages {
 }
 
 #[repr(C)]
-#[derive(Clone, Copy)]
+#[derive(Clone, Copy, Default)]
 pub struct HostPayment {
     pub refusal: HostRefusal,
     pub composite: i64,
@@ -85,14 +85,14 @@ pub struct HostPayment {
 }
 
 #[repr(C)]
-#[derive(Clone, Copy)]
+#[derive(Clone, Copy, Default)]
 pub struct HostPair {
     pub lower: i32,
     pub upper: i32,
 }
 
 #[repr(C)]
-#[derive(Clone, Copy)]
+#[derive(Clone, Copy, Default)]
 pub struct HostMixtureLimits {
     pub refusal: HostRefusal,
     pub vma: HostPair,
@@ -101,35 +101,35 @@ pub struct HostMixtureLimits {
 }
 
 #[repr(C)]
-#[derive(Clone, Copy)]
+#[derive(Clone, Copy, Default)]
 pub struct HostRead {
     pub refusal: HostRefusal,
     pub lot: HostLot,
 }
 
 #[repr(C)]
-#[derive(Clone, Copy)]
+#[derive(Clone, Copy, Default)]
 pub struct HostWritten {
     pub refusal: HostRefusal,
     pub size: usize,
 }
 
 #[repr(C)]
-#[derive(Clone, Copy)]
+#[derive(Clone, Copy, Default)]
 pub struct HostListed {
     pub refusal: HostRefusal,
     pub items: usize,
 }
 
 #[repr(C)]
-#[derive(Clone, Copy)]
+#[derive(Clone, Copy, Default)]
 pub struct HostPlace {
     pub refusal: HostRefusal,
     pub start: usize,
 }
 
 #[repr(C)]
-#[derive(Clone, Copy)]
+#[derive(Clone, Copy, Default)]
 pub struct HostRow {
     pub refusal: HostRefusal,
     pub mean: f64,
@@ -149,7 +149,7 @@ pub struct HostSheet {
 }
 
 #[repr(C)]
-#[derive(Clone, Copy)]
+#[derive(Clone, Copy, Default)]
 pub struct HostChecked {
     pub refusal: HostRefusal,
     pub accepted: u32,

@@ -45,63 +45,53 @@ pub struct HundredthTons(pub i64);
 #[derive(Clone, Copy)]
 pub struct SheetVerdict(pub i64);
 
-#[derive(Clone, Copy)]
-pub enum Limit {
-    Absent,
-    At(Thousandths),
-}
+// An upper or a lower limit, which may be absent.
+pub type Limit = Option<Thousandths>;
 
 // Why an entry does not answer. The numbers are document 01's and document 02's.
 #[derive(Clone, Copy)]
 pub enum Refusal {
-    // 1: too few bytes, or the length does not fit the slice
-    Size,
-    // 2: another version
-    Version,
-    // 3: unknown flags, or bytes that are not zero for an absent limit
-    Flags,
-    // 4: too few or too many readings, or a length that does not fit their number
-    Count,
-    // 5: a limit or a reading out of range
-    Range,
-    // 6: no limit at all
-    Unlimited,
-    // 7: the lower limit above the upper
-    Crossed,
-    // 8: no room for what is to be written, or a ninth edition
-    Room,
-    // 9: a number that pay, the mixture lookup, the cut of a job or a pay sheet does not take
-    Number,
-    // 10: no column in the edition for so many readings
-    NoColumn,
-    // 11: lent bytes that are no store of editions, or an edition that is not accepted
-    Unsound,
-    // 12: an edition whose number is not above the last one stored
-    NotRising,
-    // 13: no edition of that number in the store
-    NoEdition,
+    // too few bytes, or the length does not fit the slice
+    Size = 1,
+    // another version
+    Version = 2,
+    // unknown flags, or bytes that are not zero for an absent limit
+    Flags = 3,
+    // too few or too many readings, or a length that does not fit their number
+    Count = 4,
+    // a limit or a reading out of range
+    Range = 5,
+    // no limit at all
+    Unlimited = 6,
+    // the lower limit above the upper
+    Crossed = 7,
+    // no room for what is to be written, or a ninth edition
+    Room = 8,
+    // a number that pay, the mixture lookup, the cut of a job or a pay sheet does not take
+    Number = 9,
+    // no column in the edition for so many readings
+    NoColumn = 10,
+    // lent bytes that are no store of editions, or an edition that is not accepted
+    Unsound = 11,
+    // an edition whose number is not above the last one stored
+    NotRising = 12,
+    // no edition of that number in the store
+    NoEdition = 13,
 }
 
 impl Refusal {
     pub fn number(self) -> u32
         ensures { result ≡ number_of self }
     {
-        match self {
-            Refusal::Size => 1,
-            Refusal::Version => 2,
-            Refusal::Flags => 3,
-            Refusal::Count => 4,
-            Refusal::Range => 5,
-            Refusal::Unlimited => 6,
-            Refusal::Crossed => 7,
-            Refusal::Room => 8,
-            Refusal::Number => 9,
-            Refusal::NoColumn => 10,
-            Refusal::Unsound => 11,
-            Refusal::NotRising => 12,
-            Refusal::NoEdition => 13,
-        }
+        self as u32
     }
+}
+
+// The two limits of a lot.
+#[derive(Clone, Copy)]
+pub struct LotLimits {
+    pub upper: Limit,
+    pub lower: Limit,
 }
 
 // A lot in memory: its readings are the first `count`. Any numbers may stand in it; an entry that takes one refuses what is no lot.
@@ -113,18 +103,23 @@ pub struct HeldLot {
     pub readings: [Thousandths; MOST],
 }
 
+impl HeldLot {
+    pub fn limits(self) -> LotLimits
+        ensures { result ≡ record { upper = self.upper; lower = self.lower } }
+    {
+        LotLimits {
+            upper: self.upper,
+            lower: self.lower,
+        }
+    }
+}
+
 // n, T and Z of some readings: their count, their sum and the sum of their squares.
 #[derive(Clone, Copy)]
 pub struct Totals {
     pub n: u32,
     pub t: i64,
     pub z: i64,
-}
-
-#[derive(Clone, Copy)]
-pub enum TotalsAnswer {
-    Answers(Totals),
-    Refused(Refusal),
 }
 
 // The totals of a lot, and the place in a store at which the column for its count starts.
@@ -134,36 +129,11 @@ pub struct Columned {
     pub column: usize,
 }
 
-#[derive(Clone, Copy)]
-pub enum ColumnAnswer {
-    Answers(Columned),
-    Refused(Refusal),
-}
-
-// An answer that holds no values: either there are none, or they stand beside it.
-#[derive(Clone, Copy)]
-pub enum Outcome {
-    Answers,
-    Refused(Refusal),
-}
-
 // The mean, unrounded: the sum of the readings and their count.
 #[derive(Clone, Copy)]
 pub struct Mean {
     pub total: Thousandths,
     pub count: u32,
-}
-
-#[derive(Clone, Copy)]
-pub enum MeanAnswer {
-    Answers(Mean),
-    Refused(Refusal),
-}
-
-#[derive(Clone, Copy)]
-pub enum DeviationAnswer {
-    Answers(Thousandths),
-    Refused(Refusal),
 }
 
 // How many rows of the table were tried for each side.
@@ -182,16 +152,11 @@ pub struct Percentages {
     pub tried: Tried,
 }
 
-#[derive(Clone, Copy)]
-pub enum Evaluation {
-    Answers(Percentages),
-    Refused(Refusal),
-}
-
+// The numbers are those of a pay sheet's verdict.
 #[derive(Clone, Copy)]
 pub enum Verdict {
-    Accepted,
-    Rejected,
+    Accepted = 0,
+    Rejected = 1,
 }
 
 // The composite, the verdict on each characteristic and on the lot, and the pay, which is given whatever the verdict.
@@ -205,65 +170,19 @@ pub struct Payment {
     pub pay: Cents,
 }
 
+// A lower and an upper number: limits, or offsets from which they are worked out.
 #[derive(Clone, Copy)]
-pub enum PayAnswer {
-    Answers(Payment),
-    Refused(Refusal),
+pub struct Pair<T> {
+    pub lower: T,
+    pub upper: T,
 }
 
-// A lower and an upper limit as they are worked out: they may be out of range.
+// One thing of each of the three characteristics that are paid for: its lot, its PWL, its limits.
 #[derive(Clone, Copy)]
-pub struct Pair {
-    pub lower: i64,
-    pub upper: i64,
-}
-
-#[derive(Clone, Copy)]
-pub struct Limits {
-    pub lower: Thousandths,
-    pub upper: Thousandths,
-}
-
-// The limits of the three characteristics of a mixture.
-#[derive(Clone, Copy)]
-pub struct MixtureLimits {
-    pub vma: Limits,
-    pub voids: Limits,
-    pub density: Limits,
-}
-
-#[derive(Clone, Copy)]
-pub enum MixtureAnswer {
-    Answers(MixtureLimits),
-    Refused(Refusal),
-}
-
-// An enum can hold no array, so the lot that was read stands beside the outcome. Where the record is refused the lot is blank.
-#[derive(Clone, Copy)]
-pub struct ReadAnswer {
-    pub said: Outcome,
-    pub lot: HeldLot,
-}
-
-// The number of bytes written.
-#[derive(Clone, Copy)]
-pub enum WriteAnswer {
-    Answers(usize),
-    Refused(Refusal),
-}
-
-// How many items stand in a lent list that was filled.
-#[derive(Clone, Copy)]
-pub enum ListAnswer {
-    Answers(usize),
-    Refused(Refusal),
-}
-
-// The place in a store at which an edition's entry starts.
-#[derive(Clone, Copy)]
-pub enum PlaceAnswer {
-    Answers(usize),
-    Refused(Refusal),
+pub struct Characteristics<T> {
+    pub vma: T,
+    pub voids: T,
+    pub density: T,
 }
 
 // The notebook's row of a lot that is not refused.
@@ -272,12 +191,6 @@ pub struct Row {
     pub mean: f64,
     pub deviation: f64,
     pub pwl: f64,
-}
-
-#[derive(Clone, Copy)]
-pub enum RowAnswer {
-    Answers(Row),
-    Refused(Refusal),
 }
 
 // A pay sheet, entries 0 to 5. Any numbers may stand in it; `check` and `compare` refuse what is no sheet.
@@ -291,36 +204,10 @@ pub struct Sheet {
     pub pay: Cents,
 }
 
-// The PWL of a lot, alone.
-#[derive(Clone, Copy)]
-pub enum PwlAnswer {
-    Answers(Hundredths),
-    Refused(Refusal),
-}
-
-#[derive(Clone, Copy)]
-pub enum SheetAnswer {
-    Answers(Sheet),
-    Refused(Refusal),
-}
-
 // An entry in which two sheets differ: which one it is, and the number that each has there.
 #[derive(Clone, Copy)]
 pub struct Difference {
     pub entry: u32,
     pub first: i64,
     pub second: i64,
-}
-
-// What is found of a sheet beside ours: it is accepted, or there is a first entry in which the two differ.
-#[derive(Clone, Copy)]
-pub enum Finding {
-    Accepted,
-    Differs(Difference),
-}
-
-#[derive(Clone, Copy)]
-pub enum CheckAnswer {
-    Answers(Finding),
-    Refused(Refusal),
 }

@@ -8,14 +8,13 @@ ghost use Rattle.std.specs.Prelude.{◌≡◌};
 ghost use Rattle.rules.specs.Lot.{lot_in};
 ghost use Rattle.rules.specs.Store.{table_in};
 ghost use Rattle.rules.specs.Refusals.{sheet_case};
-ghost use Rattle.rules.specs.Answers.{check_said, list_said};
 ghost use Rattle.rules.specs.Check.{check_says, compare_says, after_compare};
 
 use editions::named;
 use entries::{count, first_of, list, numbers};
 use ours::ours;
 use refusals::outside;
-use rules::{Cents, CheckAnswer, HeldLot, HundredthTons, ListAnswer, Refusal, Sheet, SheetAnswer};
+use rules::{Cents, Characteristics, Difference, HeldLot, HundredthTons, Refusal, Sheet};
 
 // The greatest number of an entry.
 const GREATEST: i64 = 1000000000000000;
@@ -34,57 +33,40 @@ fn unfit(sheet: Sheet) -> bool
 
 // Accepts the sheet that the rules give for three lots, by one edition, a price and a quantity, and no other; or names the first entry in which the two
 // differ, with the sheet's number and ours.
+#[tactic(auto, using(laws::proofs::OurSheet::check_by_ours, laws::proofs::Columned::found_in_store), unfolding(rules::specs::Said::ruled, rules::specs::Sheet::differences))]
 pub fn check(
     store: &[u8],
     edition: u32,
-    vma: HeldLot,
-    voids: HeldLot,
-    density: HeldLot,
+    lots: Characteristics<HeldLot>,
     price: Cents,
     quantity: HundredthTons,
     sheet: Sheet,
-) -> CheckAnswer
-    ensures { check_said result ≡ check_says (table_in store.now edition) (lot_in vma) (lot_in voids) (lot_in density) price.0 quantity.0 sheet }
+) -> Result<Option<Difference>, Refusal>
+    ensures { result ≡ check_says (table_in store.now edition) (lot_in lots.vma) (lot_in lots.voids) (lot_in lots.density) price.0 quantity.0 sheet }
 {
-    match ours(
-        store,
-        named(store, edition),
-        vma,
-        voids,
-        density,
-        price,
-        quantity,
-    ) {
-        SheetAnswer::Refused(refusal) => CheckAnswer::Refused(refusal),
-        SheetAnswer::Answers(ours) => {
-            if unfit(sheet) {
-                CheckAnswer::Refused(Refusal::Number)
-            } else {
-                CheckAnswer::Answers(first_of(numbers(sheet), numbers(ours)))
-            }
-        }
+    let ours = ours(store, named(store, edition), lots, price, quantity)?;
+    if unfit(sheet) {
+        return Err(Refusal::Number);
     }
+    Ok(first_of(numbers(sheet), numbers(ours)))
 }
 
 // Every entry in which two sheets differ, from the start of a lent list, two numbers to each: which entry it is, and the first sheet's number less the
 // second's. What lies past them stays.
-pub fn compare(first: Sheet, second: Sheet, out: &mut [i64]) -> ListAnswer
-    ensures result_value { list_said result ≡ compare_says first second out.old }
+#[tactic(auto, using(laws::proofs::CompareAnswers::refused_comparison_keeps, laws::proofs::CompareAnswers::first_sheet_is_refused, laws::proofs::CompareAnswers::second_sheet_is_refused, laws::proofs::CompareAnswers::short_comparison_is_refused, laws::proofs::CompareAnswers::comparison_is_answered, laws::proofs::SheetTaken::sheet_is_taken, laws::proofs::SheetTaken::taken_is_entered, laws::proofs::Differences::no_more_differences), unfolding(rules::specs::Sheet::differences))]
+pub fn compare(first: Sheet, second: Sheet, out: &mut [i64]) -> Result<usize, Refusal>
+    ensures result_value { result ≡ compare_says first second out.old }
     ensures out_after { out.new ≡ after_compare first second out.old }
 {
-    if unfit(first) {
-        ListAnswer::Refused(Refusal::Number)
-    } else if unfit(second) {
-        ListAnswer::Refused(Refusal::Number)
-    } else {
-        let a = numbers(first);
-        let b = numbers(second);
-        let items = count(a, b);
-        if out.len() < 2 * items {
-            ListAnswer::Refused(Refusal::Room)
-        } else {
-            list(a, b, out);
-            ListAnswer::Answers(items)
-        }
+    if unfit(first) || unfit(second) {
+        return Err(Refusal::Number);
     }
+    let a = numbers(first);
+    let b = numbers(second);
+    let items = count(a, b);
+    if out.len() < 2 * items {
+        return Err(Refusal::Room);
+    }
+    list(a, b, out);
+    Ok(items)
 }

@@ -1,7 +1,9 @@
 // The nine columns of Table 106-1, n = 2 to 10, in hundredths: 54 rows each, from index 0.00 to 2.65, and two bytes to a row, the higher first.
 // A constant is laid out anew wherever it is used, so the columns stand in three constants, and only the one that is asked for is laid out. The
 // three have different lengths, since constants of one length are taken for one that is filled byte by byte.
-pub const FROM_2: [[u8; 108]; 3] = [
+use crate::COLUMN;
+
+pub const FROM_2: [[u8; COLUMN]; 3] = [
     [
         19, 136, 20, 48, 20, 216, 21, 127, 22, 39, 22, 207, 23, 119, 24, 30, 24, 198, 25, 110, 26,
         22, 26, 190, 27, 101, 28, 13, 28, 181, 29, 93, 30, 5, 30, 172, 31, 84, 31, 252, 32, 164,
@@ -25,7 +27,7 @@ pub const FROM_2: [[u8; 108]; 3] = [
     ],
 ];
 
-pub const FROM_5: [[u8; 108]; 4] = [
+pub const FROM_5: [[u8; COLUMN]; 4] = [
     [
         19, 136, 20, 58, 20, 236, 21, 157, 22, 78, 22, 255, 23, 175, 24, 94, 25, 12, 25, 184, 26,
         100, 27, 14, 27, 183, 28, 93, 29, 2, 29, 165, 30, 69, 30, 227, 31, 126, 32, 22, 32, 172,
@@ -58,7 +60,7 @@ pub const FROM_5: [[u8; 108]; 4] = [
     ],
 ];
 
-pub const FROM_9: [[u8; 108]; 2] = [
+pub const FROM_9: [[u8; COLUMN]; 2] = [
     [
         19, 136, 20, 71, 21, 6, 21, 195, 22, 128, 23, 60, 23, 246, 24, 174, 25, 100, 26, 23, 26,
         199, 27, 116, 28, 29, 28, 195, 29, 101, 30, 3, 30, 156, 31, 48, 31, 192, 32, 75, 32, 208,

@@ -11,14 +11,14 @@ ghost use Rattle.rules.specs.Editions.{storing_says, after_storing, finding_says
 ghost use Rattle.rules.specs.Host.{host_refusal, host_mean, host_deviation, host_percentages, host_payment, host_mixture_limits, given_lot, given_row, held_lot, host_read, host_written, host_listed, host_place, host_row};
 ghost use Rattle.rules.specs.HostSheet.{held_sheet, host_checked};
 
-use host::limit;
+use host::limits;
 use host::lot::held_lot;
 use host::sheet::held_sheet;
 use rules::host::{
     HostChecked, HostDeviation, HostListed, HostLot, HostMean, HostMixtureLimits, HostPayment,
     HostPercentages, HostPlace, HostRead, HostRefusal, HostRow, HostSheet, HostWritten,
 };
-use rules::{Cents, HundredthTons, Hundredths, Thousandths};
+use rules::{Cents, Characteristics, HundredthTons, Hundredths, Thousandths};
 
 #[unsafe(no_mangle)]
 pub extern "C" fn tulpavice_mean(readings: &[i32]) -> HostMean
@@ -77,9 +77,12 @@ pub extern "C" fn tulpavice_evaluate(
 ) -> HostPercentages
     ensures { result ≡ host_percentages (evaluation_says (table_in store.now edition) (given_lot upper upper_present lower lower_present readings.now)) }
 {
-    let above = limit(upper, upper_present);
-    let below = limit(lower, lower_present);
-    host::percentages(quality::evaluate(store, edition, readings, above, below))
+    host::percentages(quality::evaluate(
+        store,
+        edition,
+        readings,
+        limits(upper, upper_present, lower, lower_present),
+    ))
 }
 
 #[unsafe(no_mangle)]
@@ -104,9 +107,11 @@ pub extern "C" fn tulpavice_pay(
     ensures { result ≡ host_payment (pay_says vma voids density price quantity) }
 {
     host::payment(pay::payment(
-        Hundredths(vma),
-        Hundredths(voids),
-        Hundredths(density),
+        Characteristics {
+            vma: Hundredths(vma),
+            voids: Hundredths(voids),
+            density: Hundredths(density),
+        },
         Cents(price),
         HundredthTons(quantity),
     ))
@@ -158,9 +163,11 @@ pub extern "C" fn tulpavice_check(
     host::sheet::checked(sheets::check(
         store,
         edition,
-        held_lot(vma),
-        held_lot(voids),
-        held_lot(density),
+        Characteristics {
+            vma: held_lot(vma),
+            voids: held_lot(voids),
+            density: held_lot(density),
+        },
         Cents(price),
         HundredthTons(quantity),
         held_sheet(sheet),
@@ -191,9 +198,12 @@ pub extern "C" fn tulpavice_row_refusal(
 ) -> HostRefusal
     ensures { result ≡ host_refusal (given_row (table_in store.now edition) upper upper_present lower lower_present readings.now) }
 {
-    let above = limit(upper, upper_present);
-    let below = limit(lower, lower_present);
-    notebook::refusal(store, edition, readings, above, below)
+    notebook::refusal(
+        store,
+        edition,
+        readings,
+        limits(upper, upper_present, lower, lower_present),
+    )
 }
 
 #[unsafe(no_mangle)]
@@ -208,9 +218,12 @@ pub extern "C" fn tulpavice_row_mean(
 ) -> f64
     ensures { result ≡ mean_asked (given_row (table_in store.now edition) upper upper_present lower lower_present readings.now) }
 {
-    let above = limit(upper, upper_present);
-    let below = limit(lower, lower_present);
-    notebook::mean(store, edition, readings, above, below)
+    notebook::mean(
+        store,
+        edition,
+        readings,
+        limits(upper, upper_present, lower, lower_present),
+    )
 }
 
 #[unsafe(no_mangle)]
@@ -225,9 +238,12 @@ pub extern "C" fn tulpavice_row_deviation(
 ) -> f64
     ensures { result ≡ deviation_asked (given_row (table_in store.now edition) upper upper_present lower lower_present readings.now) }
 {
-    let above = limit(upper, upper_present);
-    let below = limit(lower, lower_present);
-    notebook::deviation(store, edition, readings, above, below)
+    notebook::deviation(
+        store,
+        edition,
+        readings,
+        limits(upper, upper_present, lower, lower_present),
+    )
 }
 
 #[unsafe(no_mangle)]
@@ -242,9 +258,12 @@ pub extern "C" fn tulpavice_row_pwl(
 ) -> f64
     ensures { result ≡ pwl_asked (given_row (table_in store.now edition) upper upper_present lower lower_present readings.now) }
 {
-    let above = limit(upper, upper_present);
-    let below = limit(lower, lower_present);
-    notebook::pwl(store, edition, readings, above, below)
+    notebook::pwl(
+        store,
+        edition,
+        readings,
+        limits(upper, upper_present, lower, lower_present),
+    )
 }
 
 #[unsafe(no_mangle)]
@@ -259,7 +278,10 @@ pub extern "C" fn tulpavice_row(
 ) -> HostRow
     ensures { result ≡ host_row (given_row (table_in store.now edition) upper upper_present lower lower_present readings.now) }
 {
-    let above = limit(upper, upper_present);
-    let below = limit(lower, lower_present);
-    host::row(notebook::row(store, edition, readings, above, below))
+    host::row(notebook::row(
+        store,
+        edition,
+        readings,
+        limits(upper, upper_present, lower, lower_present),
+    ))
 }

@@ -11,7 +11,7 @@ use Rattle.editions.proofs.fill.Goals as goal
 
 pub loop-i-init : goal.loop-i-init
 unfolding size_of
-loop-i-init c = record { few = omega arith; place = refl; size = refl; listed = refl }
+loop-i-init c = record { place = refl; size = refl; listed = refl }
 
 pub overflow_add-at : goal.overflow_add-at
 overflow_add-at c = let e = edition_next _ c.requires.0 c.loop-i.i _ (omega arith) c.loop-i.invariant.place in omega arith
@@ -36,7 +36,6 @@ loop-i-preserved c =
     let few : i < length (numbers es) = omega (arith, length-map es number_field) in
     let number : c.two.result ≡ get_or (numbers es) i (number_field []) = c.two.ensures ∙ e.number ∙ sym (get_or-map number_field es i []) in
     record {
-      few = omega arith;
       place =
           ap (λ (n : ℕ). c.loop-i.at + (2 + n)) c.two-in-loop-i.ensures ∙ e.next ∙ ap (λ (n : ℕ). size_of (take n es)) (sym (add-one i));
       size = simp length-set c.loop-i.invariant.size;

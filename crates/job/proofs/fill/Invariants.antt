@@ -1,15 +1,7 @@
--- The loop has filled in the first i lots, which have ten sublots each.
-use Rattle.std.proofs.Common.{◌≡◌, ◌*◌, ◌-◌, ◌≤◌, ◌++◌, take, drop}
+-- The first i lots are filled in.
+use Rattle.std.proofs.Common.{◌≡◌, ◌*◌, ◌++◌, take, drop}
 use Rattle.rules.specs.Job.{cut, item_numbers}
 use Rattle.job.proofs.fill.Given as goal
 
 abbrev pub invariant-loop-i : goal.invariant-loop-i
-invariant-loop-i l =
-    record {
-      within : l.i ≤ l.lots;
-      filled : l.out ≡ take (2 * l.i) (item_numbers (cut l.sublots)) ++ drop (2 * l.i) l.fn.out;
-      begins : l.start ≡ 10 * l.i;
-    }
-
-abbrev pub decreases-loop-i : goal.decreases-loop-i
-decreases-loop-i l = l.lots - l.i
+invariant-loop-i l = l.out ≡ take (2 * l.i) (item_numbers (cut l.sublots)) ++ drop (2 * l.i) l.fn.out

@@ -9,8 +9,8 @@ pub returns-then-allowed : goal.returns-then-allowed
 unfolding totalled
 returns-then-allowed c =
     c.met.ensures
-    ∙ ap (with_limits_say c.args.upper c.args.lower) c.walk.ensures
-    ∙ walked_with_limits c.args.upper c.args.lower c.args.readings.now
+    ∙ ap (with_limits_say c.args.limits.upper c.args.limits.lower) c.walk.ensures
+    ∙ walked_with_limits c.args.limits.upper c.args.limits.lower c.args.readings.now
     ∙ sym (ruled_passed _ _ _ (ap not (sym c.if-allowed.ensures)))
 
 pub returns-else-allowed : goal.returns-else-allowed

@@ -15,4 +15,4 @@ loop-i-preserved c =
     let inv = c.loop-i.invariant in
     let size : length xs ≡ most = search rules in
     let f : SFits w32 (get_or xs c.loop-i.i (thousandths (pos 0))).0 = search rules in
-    simp to_z-of_z (omega arith, length-set c.loop-i.numbers c.loop-i.i _ ∙ inv.1, rw (add-one c.loop-i.i) (made_suc (λ (x : Thousandths). x.0) xs c.loop-i.numbers c.loop-i.i (thousandths (pos 0)) (omega arith) (omega arith) inv.2))
+    simp to_z-of_z (length-set c.loop-i.numbers c.loop-i.i _ ∙ inv.0, rw (add-one c.loop-i.i) (made_suc (λ (x : Thousandths). x.0) xs c.loop-i.numbers c.loop-i.i (thousandths (pos 0)) (omega arith) (omega arith) inv.1))

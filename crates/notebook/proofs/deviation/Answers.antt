@@ -6,12 +6,12 @@ use Rattle.laws.proofs.Lent.{lent_accepted, lent_refused}
 use Rattle.notebook.proofs.deviation.Goals as goal
 
 pub deviation_of-requires : goal.deviation_of-requires
-deviation_of-requires c = (lent_accepted _ _ _ _ c.lent.ensures.0 c.in-Answers.is).bounded
+deviation_of-requires c = (lent_accepted _ _ _ _ c.lent.ensures.0 c.in-Ok.is).bounded
 
-pub returns-in-Refused : goal.returns-in-Refused
+pub returns-in_default : goal.returns-in_default
 unfolding of_bits
-returns-in-Refused c = sym (ap deviation_asked (lent_refused _ _ _ _ c.lent.ensures.0 c.in-Refused.is))
+returns-in_default c = sym (ap deviation_asked (lent_refused _ _ _ _ c.lent.ensures.0 c.in_default.is))
 
-pub returns-in-Answers : goal.returns-in-Answers
+pub returns : goal.returns
 unfolding row_of
-returns-in-Answers c = c.deviation_of.ensures ∙ sym (ap deviation_asked (lent_accepted _ _ _ _ c.lent.ensures.0 c.in-Answers.is).row)
+returns c = c.deviation_of.ensures ∙ sym (ap deviation_asked (lent_accepted _ _ _ _ c.lent.ensures.0 c.in-Ok.is).row)

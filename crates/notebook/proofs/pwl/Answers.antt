@@ -9,18 +9,18 @@ use Rattle.notebook.proofs.pwl.Goals as goal
 
 pub pwl_of-requires : goal.pwl_of-requires
 pwl_of-requires c =
-    let h = lent_accepted _ _ _ _ c.lent.ensures.0 c.in-Answers.is in
-    let f = column_is_found _ _ refl c.lent.ensures.1 c.in-Answers.is in
+    let h = lent_accepted _ _ _ _ c.lent.ensures.0 c.in-Ok.is in
+    let f = column_is_found _ _ refl c.lent.ensures.1 c.in-Ok.is in
     (h.bounded, h.upper_in_range, h.lower_in_range, f.within, f.shape)
 
-pub returns-in-Refused : goal.returns-in-Refused
+pub returns-in_default : goal.returns-in_default
 unfolding of_bits
-returns-in-Refused c = sym (ap pwl_asked (lent_refused _ _ _ _ c.lent.ensures.0 c.in-Refused.is))
+returns-in_default c = sym (ap pwl_asked (lent_refused _ _ _ _ c.lent.ensures.0 c.in_default.is))
 
-pub returns-in-Answers : goal.returns-in-Answers
+pub returns : goal.returns
 unfolding row_of
-returns-in-Answers c =
-    let f = column_is_found _ _ refl c.lent.ensures.1 c.in-Answers.is in
+returns c =
+    let f = column_is_found _ _ refl c.lent.ensures.1 c.in-Ok.is in
     c.pwl_of.ensures
     ∙ ap (λ (p : Percentages). over p.pwl.0 100) (placed_percentages _ _ _ f)
-    ∙ sym (ap pwl_asked (lent_accepted _ _ _ _ c.lent.ensures.0 c.in-Answers.is).row)
+    ∙ sym (ap pwl_asked (lent_accepted _ _ _ _ c.lent.ensures.0 c.in-Ok.is).row)

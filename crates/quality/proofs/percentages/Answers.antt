@@ -22,4 +22,4 @@ by_column-requires c =
 pub returns : goal.returns
 returns c =
     let same = ap column_in (the_part c.args.store.now c.args.lot.column) ∙ column_in_part c.args.store.now c.args.lot.column in
-    c.by_column.ensures ∙ ap (λ (column : List ℕ). percentages_of nearest column c.args.lot.totals c.args.upper c.args.lower) same
+    c.by_column.ensures ∙ ap (λ (column : List ℕ). percentages_of nearest column c.args.lot.totals c.args.limits.upper c.args.limits.lower) same

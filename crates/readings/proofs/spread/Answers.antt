@@ -1,8 +1,5 @@
 -- The difference is V, which is its own magnitude.
-use Rattle.std.proofs.Common.{◌≡◌, rules, ap, ◌∙◌, pos, nat_abs, arith}
-use mir.Syntax.{w64}
-use mir.Val.{to_z}
-use mir.Facts.{to_z_pos}
+use Rattle.std.proofs.Common.{◌≡◌, rules, ap, ◌∙◌, pos, nat_abs}
 use Rattle.integers.proofs.Magnitude.{nat_abs_pos}
 use Rattle.rules.specs.Percent.{spread}
 use Rattle.readings.proofs.spread.Goals as goal
@@ -10,7 +7,6 @@ use Rattle.readings.proofs.spread.Goals as goal
 pub returns : goal.returns
 unfolding spread
 returns c =
-    let n : to_z w64 c.args.a.n ≡ pos c.args.a.n = to_z_pos w64 (omega (arith, c.requires.few)) in
-    let m : c.magnitude.result ≡ nat_abs c.difference.result = search rules in
     let d : c.difference.result ≡ spread c.args.a = search rules in
+    let m : c.unsigned_abs.result ≡ nat_abs c.difference.result = search rules in
     ap pos (m ∙ ap nat_abs d) ∙ nat_abs_pos c.requires.spread_not_negative

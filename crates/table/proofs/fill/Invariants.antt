@@ -1,16 +1,7 @@
 -- At n the bytes begin as the edition does up to its column for n, and go on as they were.
-use Rattle.std.proofs.Common.{◌≡◌, ◌-◌, ◌≤◌, ◌++◌, length, take, drop}
+use Rattle.std.proofs.Common.{◌≡◌, ◌++◌, take, drop}
 use Rattle.rules.specs.Edition.{column_place, edition_106_1}
 use Rattle.table.proofs.fill.Given as goal
 
 abbrev pub invariant-loop-n : goal.invariant-loop-n
-invariant-loop-n l = record {
-  from_2 : 2 ≤ l.n;
-  to_11 : l.n ≤ 11;
-  size : length l.out ≡ length l.fn.out;
-  room : 979 ≤ length l.fn.out;
-  written : l.out ≡ take (column_place 2 l.n) (edition_106_1 l.number) ++ drop (column_place 2 l.n) l.fn.out;
-}
-
-abbrev pub decreases-loop-n : goal.decreases-loop-n
-decreases-loop-n l = 11 - l.n
+invariant-loop-n l = l.out ≡ take (column_place 2 l.n) (edition_106_1 l.number) ++ drop (column_place 2 l.n) l.fn.out

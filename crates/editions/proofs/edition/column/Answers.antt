@@ -25,7 +25,6 @@ pub loop-k-preserved : goal.loop-k-preserved
 loop-k-preserved c =
     let rises : leb c.loop-k.before c.two-entry.result ≡ true = le-leb _ _ c.if-entry-before.false in
     record {
-      rows = omega arith;
       rest = next c.args.bytes.now c.args.at c.loop-k.k _ _ (omega arith) c.two-entry.ensures c.loop-k.invariant.rest ∙ simp rises;
     }
 

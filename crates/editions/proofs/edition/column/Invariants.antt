@@ -1,13 +1,9 @@
--- No entry passed is below the one before it, so the entries that are left say what the whole column says. The measure is what is left of the rows.
-use Rattle.std.proofs.Common.{◌≡◌, ◌-◌, ◌≤◌, drop}
+-- No entry passed is below the one before it, so the entries that are left say what the whole column says.
+use Rattle.std.proofs.Common.{◌≡◌, drop}
 use Rattle.rules.specs.Table.{column_in, rises_from}
 use Rattle.editions.proofs.edition.column.Given as goal
 
 abbrev pub invariant-loop-k : goal.invariant-loop-k
 invariant-loop-k l = record {
-  rows : l.k ≤ 54;
   rest : rises_from 0 (column_in (drop l.at l.bytes)) ≡ rises_from l.before (drop l.k (column_in (drop l.at l.bytes)));
 }
-
-abbrev pub decreases-loop-k : goal.decreases-loop-k
-decreases-loop-k l = 54 - l.k

@@ -30,6 +30,5 @@ returns-then-not-column c =
 
 pub loop-i-preserved : goal.loop-i-preserved
 loop-i-preserved c = record {
-  few = omega arith;
   rest = told c.args.edition.now c.args.count c.loop-i.i true (omega arith) (sym c.if-not-column.false ∙ c.column.ensures) c.loop-i.invariant.rest;
 }

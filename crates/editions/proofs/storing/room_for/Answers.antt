@@ -1,17 +1,22 @@
 -- What the walk knows of the store, and the edition's own number and size, decide.
-use Rattle.std.proofs.Common.{◌≡◌, true, sym, ◌∙◌, arith}
+use Rattle.std.proofs.Common.{◌≡◌, true, sym, ap, ◌∙◌, rules, arith}
+use Rattle.std.specs.Prelude.{Err}
 use Rattle.rules.specs.Edition.{accepted}
+use Rattle.rules.specs.Editions.{storing_says}
 use Rattle.laws.proofs.Editions.{edition_accepted}
-use Rattle.laws.proofs.StoreKnown.{walked_unsound, ends_known}
+use Rattle.laws.proofs.StoreKnown.{walk_ends_known, walk_is_unsound}
 use Rattle.laws.proofs.StoreAnswers.{storing_unsound, storing_refused, storing_low, storing_full, storing_no_room, storing_stores}
 use Rattle.editions.proofs.storing.room_for.Goals as goal
 
-pub returns-in-Unsound : goal.returns-in-Unsound
-returns-in-Unsound c = storing_unsound _ _ (walked_unsound _ _ c.in-Unsound.ensures)
+pub returns-in_err-w : goal.returns-in_err-w
+returns-in_err-w c =
+    let told = walk_is_unsound 0 c.args.store.now c.whole.ensures c.in_err-w.was in
+    let same : Err c.in_err-w.field-0.0 ≡ storing_says c.args.store.now c.args.edition.now = ap Err told.1 ∙ storing_unsound _ _ told.0 in
+    search rules
 
 pub returns-then-not-accepted : goal.returns-then-not-accepted
 returns-then-not-accepted c =
-    let k = ends_known 0 c.args.store.now c.in-Store.w c.in-Store.ensures in
+    let k = walk_ends_known 0 c.args.store.now c.whole.ensures c.in_ok-w.was in
     storing_refused _ _ _ k (sym c.accepted.ensures ∙ c.if-not-accepted.true)
 
 pub two-requires : goal.two-requires
@@ -22,23 +27,23 @@ two-requires c =
 
 pub returns-then-two-w : goal.returns-then-two-w
 returns-then-two-w c =
-    let k = ends_known 0 c.args.store.now c.in-Store.w c.in-Store.ensures in
+    let k = walk_ends_known 0 c.args.store.now c.whole.ensures c.in_ok-w.was in
     storing_low _ _ _ k (sym c.accepted.ensures ∙ c.if-not-accepted.false) (omega (arith, c.two.ensures))
 
 pub returns-then-w-eq-MOST_EDITIONS : goal.returns-then-w-eq-MOST_EDITIONS
 returns-then-w-eq-MOST_EDITIONS c =
-    let k = ends_known 0 c.args.store.now c.in-Store.w c.in-Store.ensures in
+    let k = walk_ends_known 0 c.args.store.now c.whole.ensures c.in_ok-w.was in
     storing_full _ _ _ k (sym c.accepted.ensures ∙ c.if-not-accepted.false) (omega (arith, c.two.ensures)) c.if-w-eq-MOST_EDITIONS.true
 
 pub overflow_sub-store : goal.overflow_sub-store
-overflow_sub-store c = (ends_known 0 c.args.store.now c.in-Store.w c.in-Store.ensures).within
+overflow_sub-store c = (walk_ends_known 0 c.args.store.now c.whole.ensures c.in_ok-w.was).within
 
-pub returns-then-store-end : goal.returns-then-store-end
-returns-then-store-end c =
-    let k = ends_known 0 c.args.store.now c.in-Store.w c.in-Store.ensures in
-    storing_no_room _ _ _ k (sym c.accepted.ensures ∙ c.if-not-accepted.false) (omega (arith, c.two.ensures)) (omega arith) c.if-store-end.true
+pub returns-then-store-w : goal.returns-then-store-w
+returns-then-store-w c =
+    let k = walk_ends_known 0 c.args.store.now c.whole.ensures c.in_ok-w.was in
+    storing_no_room _ _ _ k (sym c.accepted.ensures ∙ c.if-not-accepted.false) (omega (arith, c.two.ensures)) (omega arith) c.if-store-w.true
 
-pub returns-else-store-end : goal.returns-else-store-end
-returns-else-store-end c =
-    let k = ends_known 0 c.args.store.now c.in-Store.w c.in-Store.ensures in
-    storing_stores _ _ _ k (sym c.accepted.ensures ∙ c.if-not-accepted.false) (omega (arith, c.two.ensures)) (omega arith) c.if-store-end.false
+pub returns : goal.returns
+returns c =
+    let k = walk_ends_known 0 c.args.store.now c.whole.ensures c.in_ok-w.was in
+    storing_stores _ _ _ k (sym c.accepted.ensures ∙ c.if-not-accepted.false) (omega (arith, c.two.ensures)) (omega arith) c.if-store-w.false

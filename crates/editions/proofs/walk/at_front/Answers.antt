@@ -1,13 +1,12 @@
 -- Each way out is what the front of the bytes says.
 use Rattle.std.proofs.Common.{◌≡◌, ℕ, ◌+◌, true, false, List, length, take, sym, ap, ◌∙◌, arith}
 use mathlib.Core.Path.{ap₂}
-use Rattle.rules.specs.declared.store.Front.{Front}
 use Rattle.rules.specs.Record.{length_field}
 use Rattle.rules.specs.Edition.{number_field, accepted}
 use Rattle.rules.specs.Store.{ends, first_entry}
 use Rattle.laws.proofs.Editions.{edition_accepted}
 use Rattle.laws.proofs.StoreEnds.{ends_short, ends_zero, not_end}
-use Rattle.laws.proofs.StoreWalk.{cut_short, front_end, front_refused, front_low, front_edition}
+use Rattle.laws.proofs.StoreWalk.{edition_front, cut_short, front_end, front_refused, front_low, front_edition}
 use Rattle.editions.proofs.walk.at_front.Goals as goal
 
 -- the entry that is cut out is the first one
@@ -55,5 +54,5 @@ returns c =
     let rest : List ℕ = c.args.rest.now in
     let going_on : ends rest ≡ false = not_end rest c.if-rest-lt2.false (λ z. c.if-follow-eq0.false (c.two-follow.ensures ∙ z)) in
     let number : c.two-number.result ≡ number_field (first_entry rest) = c.two-number.ensures ∙ ap number_field (entry rest _ c.two-follow.ensures) in
-    ap₂ (λ (n m : ℕ). Front.Edition (2 + n) m) c.two-follow.ensures number
+    ap₂ (λ (n m : ℕ). edition_front (2 + n) m) c.two-follow.ensures number
     ∙ front_edition _ _ going_on (omega arith) (taken rest _ c.two-follow.ensures (sym c.accepted.ensures ∙ c.if-not-accepted.false)) (omega (arith, number))

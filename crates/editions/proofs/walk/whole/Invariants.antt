@@ -4,8 +4,8 @@ use Rattle.rules.specs.Store.{most_editions}
 use Rattle.laws.specs.StoreWalk.{Kept}
 use Rattle.editions.proofs.walk.whole.Given as goal
 
-abbrev pub invariant-loop-size : goal.invariant-loop-size
-invariant-loop-size l = Kept l.named l.store l.w
+abbrev pub invariant-loop-entry : goal.invariant-loop-entry
+invariant-loop-entry l = Kept l.named l.store l.w
 
-abbrev pub decreases-loop-size : goal.decreases-loop-size
-decreases-loop-size l = most_editions - l.w.count
+abbrev pub decreases-loop-entry : goal.decreases-loop-entry
+decreases-loop-entry l = most_editions - l.w.count

@@ -1,17 +1,16 @@
 -- Each reading is the one that its four bytes spell; one out of range ends the walk, and any other is put in its place.
 use Rattle.std.proofs.Common.{◌≡◌, ℕ, ◌*◌, ◌<◌, List, length, get_or, set, refl, sym, ap, ◌∙◌, ℤ, pos, arith, rules, SFits}
 use mathlib.Core.Path.{ap₂}
-use mathlib.Core.Bool.{true≢false}
 use mir.Syntax.{w32}
 use mir.Facts.{to_z-of_z}
+use Rattle.std.specs.Prelude.{Err}
 use Rattle.rules.specs.declared.Thousandths.{Thousandths}
 use Rattle.rules.specs.declared.Totals.{Totals}
 use Rattle.rules.specs.Units.{thousandths}
 use Rattle.rules.specs.Lot.{most, in_places}
 use Rattle.rules.specs.Record.{four, fours, part}
 use Rattle.rules.specs.Said.{Said}
-use Rattle.rules.specs.Answers.{totals_said}
-use Rattle.laws.specs.Totalled.{pass_says}
+use Rattle.laws.specs.Totalled.{pass_says, walk_says}
 use Rattle.laws.proofs.Spelled.{length_fours}
 use Rattle.laws.proofs.Words.{fours_at, placed_suc}
 use Rattle.laws.proofs.Walked.{walk_starts, walk_refuses, walk_goes_on, walk_ends}
@@ -29,21 +28,14 @@ pub loop-i-init : goal.loop-i-init
 unfolding fours
 loop-i-init c = (walk_starts (fours c.args.n c.args.bytes.now) (sym (length_fours c.args.n c.args.bytes.now)), refl)
 
-pub returns-in-Refused-clause-said_value : goal.returns-in-Refused-clause-said_value
-returns-in-Refused-clause-said_value c =
+pub returns-in_err-walked-clause-said_value : goal.returns-in_err-walked-clause-said_value
+returns-in_err-walked-clause-said_value c =
     let n : ℕ = c.args.n in
     let bytes : List ℕ = c.args.bytes.now in
     let inside = c.loop-i-test.true in
-    let said = by_the_read n bytes c.loop-i.i inside c.loop-i.a c.reading-x.result c.reading-x.ensures (search rules) in
-    sym (walk_refuses (fours n bytes) c.loop-i.i (below n bytes c.loop-i.i inside) {t = c.pass.result} c.loop-i.invariant.0 said c.in-Refused.is).0
-
-pub returns-in-Refused-clause-placed : goal.returns-in-Refused-clause-placed
-returns-in-Refused-clause-placed c =
-    let n : ℕ = c.args.n in
-    let bytes : List ℕ = c.args.bytes.now in
-    let inside = c.loop-i-test.true in
-    let said = by_the_read n bytes c.loop-i.i inside c.loop-i.a c.reading-x.result c.reading-x.ensures (search rules) in
-    λ near. absurd (true≢false (sym (walk_refuses (fours n bytes) c.loop-i.i (below n bytes c.loop-i.i inside) {t = c.pass.result} c.loop-i.invariant.0 said c.in-Refused.is).1 ∙ near))
+    let said = by_the_read n bytes c.loop-i.i inside c.loop-i.walked.totals c.reading-x.result c.reading-x.ensures (search rules) in
+    let same : walk_says (fours n bytes) ≡ Err c.in_err-walked.field-0.0 = (walk_refuses (fours n bytes) c.loop-i.i (below n bytes c.loop-i.i inside) {t = c.pass.result} c.loop-i.invariant.0 said c.in_err-walked.was).0 in
+    search rules
 
 pub loop-i-preserved : goal.loop-i-preserved
 loop-i-preserved c =
@@ -52,9 +44,9 @@ loop-i-preserved c =
     let inside = c.loop-i-test.true in
     let f : SFits w32 c.reading-x.result = search rules in
     let few : c.loop-i.i < most = omega (arith, c.requires.0) in
-    let said : totals_said c.pass.result ≡ pass_says c.loop-i.a (get_or (fours n bytes) c.loop-i.i (pos 0)) = by_the_read n bytes c.loop-i.i inside c.loop-i.a c.reading-x.result c.reading-x.ensures (search rules) in
+    let said : c.pass.result ≡ pass_says c.loop-i.walked.totals (get_or (fours n bytes) c.loop-i.i (pos 0)) = by_the_read n bytes c.loop-i.i inside c.loop-i.walked.totals c.reading-x.result c.reading-x.ensures (search rules) in
     simp to_z-of_z (
-      walk_goes_on (fours n bytes) c.loop-i.i (below n bytes c.loop-i.i inside) {t = c.pass.result} c.loop-i.invariant.0 said c.in-Answers.is,
+      walk_goes_on (fours n bytes) c.loop-i.i (below n bytes c.loop-i.i inside) {t = c.pass.result} c.loop-i.invariant.0 said c.in_ok-walked.was,
       ap₂ (λ (rs : List Thousandths) (x : ℤ). set rs c.loop-i.i (thousandths x)) c.loop-i.invariant.1 c.reading-x.ensures ∙ placed_suc c.loop-i.i bytes few,
     )
 
@@ -65,4 +57,4 @@ pub returns-clause-placed : goal.returns-clause-placed
 returns-clause-placed c =
     let n : ℕ = c.args.n in
     let all : c.loop-i.i ≡ n = omega (arith, c.loop-i.invariant.0.passed, length_fours n c.args.bytes.now) in
-    λ _. c.loop-i.invariant.1 ∙ ap (λ (i : ℕ). in_places i (fours i c.args.bytes.now)) all
+    c.loop-i.invariant.1 ∙ ap (λ (i : ℕ). in_places i (fours i c.args.bytes.now)) all

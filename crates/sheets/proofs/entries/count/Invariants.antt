@@ -1,10 +1,7 @@
--- The loop has passed i entries and counted those that differ.
-use Rattle.std.proofs.Common.{◌-◌, ◌≤◌}
-use Rattle.laws.specs.Sheet.{Passed}
+-- Those that are counted, and those of the entries that are left, are all.
+use Rattle.std.proofs.Common.{◌≡◌, ◌+◌, ◌≤◌, length, drop}
+use Rattle.rules.specs.Sheet.{differing}
 use Rattle.sheets.proofs.entries.count.Given as goal
 
 abbrev pub invariant-loop-entry : goal.invariant-loop-entry
-invariant-loop-entry l = (l.entry ≤ 6) × (l.items ≤ l.entry) × Passed l.a l.b l.entry l.items
-
-abbrev pub decreases-loop-entry : goal.decreases-loop-entry
-decreases-loop-entry l = 6 - l.entry
+invariant-loop-entry l = (l.items ≤ l.entry) × (l.items + length (differing l.entry (drop l.entry l.a) (drop l.entry l.b)) ≡ length (differing 0 l.a l.b))

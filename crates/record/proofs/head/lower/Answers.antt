@@ -1,9 +1,0 @@
--- The flag's bit and the number of the four bytes, as the definition has them.
-use Rattle.std.proofs.Common.{ℕ, ap, ◌∙◌, to_z}
-use Rattle.std.specs.Int.{w32}
-use Rattle.rules.specs.Record.{has_lower, limit_of, lot_of_record}
-use Rattle.record.proofs.head.lower.Goals as goal
-
-pub returns : goal.returns
-unfolding lot_of_record
-returns c = c.limit.ensures ∙ ap (λ (x : ℕ). limit_of (has_lower c.args.bytes.now) (to_z w32 x)) c.word.ensures

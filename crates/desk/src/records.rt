@@ -41,5 +41,6 @@ pub(crate) fn both_ways(rt: &impl Print) -> io::Result<()> {
     print!(rt; "\nRecord\nD5, written: ")?;
     written(rt, Ok(lot))?;
     print!(rt; "D5, as it is printed, read and written again: ")?;
-    written(rt, read(&D5))
+    let answer = read(&D5);
+    written(rt, answer.said.map(|()| answer.lot))
 }

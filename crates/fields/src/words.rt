@@ -4,7 +4,7 @@ ghost use Rattle.rules.specs.Lot.{most, in_places};
 ghost use Rattle.rules.specs.Record.{four, fours, part};
 ghost use Rattle.laws.specs.Totalled.{walk_says, said_of};
 
-use crate::number::word;
+use crate::number::{signed, word};
 use readings::pass;
 use rules::{MOST, Refusal, Thousandths, Totals};
 
@@ -20,7 +20,7 @@ fn reading(bytes: &[u8], i: usize) -> i32
     requires { 4 * i + 4 ≤ length bytes.now }
     ensures { result ≡ four (part (4 * i) 4 bytes.now) }
 {
-    word(bytes, 4 * i).cast_signed()
+    signed(word(bytes, 4 * i))
 }
 
 // One pass over the first n readings, which stops at one out of range. Inner: a record's reader and the notebook's row ask for no more than a lot and

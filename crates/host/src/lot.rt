@@ -6,7 +6,7 @@ ghost use Rattle.rules.specs.Host.{held_limit, held_lot, limit_numbers, host_lot
 use crate::{UNREFUSED, limit, refused};
 use lots::numbers;
 use rules::host::{HostLimit, HostLot, HostRead};
-use rules::{HeldLot, Limit, Refusal, Thousandths};
+use rules::{HeldLot, Limit, ReadAnswer, Thousandths};
 
 fn held_limit(given: HostLimit) -> Limit
     ensures { result ≡ held_limit given }
@@ -84,19 +84,11 @@ fn host_lot(lot: HeldLot) -> HostLot
     }
 }
 
-// Where the record is refused, the lot is blank.
-#[tactic(auto, unfolding(rules::specs::Entries::held, rules::specs::Host::host_lot))]
-pub fn read(answer: Result<HeldLot, Refusal>) -> HostRead
+pub fn read(answer: ReadAnswer) -> HostRead
     ensures { result ≡ host_read (read_said answer) }
 {
-    match answer {
-        Err(refusal) => HostRead {
-            refusal: refused(refusal),
-            ..HostRead::default()
-        },
-        Ok(lot) => HostRead {
-            refusal: UNREFUSED,
-            lot: host_lot(lot),
-        },
+    HostRead {
+        refusal: answer.said.map_or_else(refused, |()| UNREFUSED),
+        lot: host_lot(answer.lot),
     }
 }

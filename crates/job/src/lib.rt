@@ -32,12 +32,14 @@ fn fill(sublots: usize, lots: usize, out: &mut [u32])
     let Some(last) = lots.checked_sub(1) else {
         return;
     };
+    let mut start = 0;
     for i in 0..last {
-        out[2 * i] = 10 * i as u32;
+        out[2 * i] = start;
         out[2 * i + 1] = 10;
+        start += 10;
     }
-    out[2 * last] = 10 * last as u32;
-    out[2 * last + 1] = (sublots - 10 * last) as u32;
+    out[2 * last] = start;
+    out[2 * last + 1] = sublots as u32 - start;
 }
 
 // The lots of a job of so many sublots, from the start of a lent list, two numbers to each: the sublot with which it starts, counted from 0, and

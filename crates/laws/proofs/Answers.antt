@@ -3,7 +3,6 @@ use mathlib.Core.Path.{◌≡◌, refl, sym, ap, ◌∙◌}
 use mathlib.Core.List.{[], ◌∷◌}
 use Prim.Native.Nat.{ℕ, ◌-◌}
 use lib.ListN.{get_or}
-use Rattle.std.specs.Prelude.{Ok, Err}
 use Rattle.rules.specs.declared.Refusal.{Refusal}
 use Rattle.rules.specs.declared.Refusal.TheVariants.{Size, Version, Flags, Count, Range, Unlimited, Crossed, Room, Number, NoColumn, Unsound, NotRising, NoEdition}
 use Rattle.rules.specs.Said.{Said}
@@ -43,10 +42,7 @@ number_injective = read_back number_of refusal refusal_back
 
 -- A read says its lot too, just as it stands in the answer.
 pub read_injective : Injective read_said
-read_injective (Ok x) (Ok y) e = ap (λ (r : ReadSaid). Ok r.lot) e
-read_injective (Ok x) (Err q) e = cc (ap (λ (r : ReadSaid). r.said) e)
-read_injective (Err r) (Ok y) e = cc (ap (λ (r : ReadSaid). r.said) e)
-read_injective (Err r) (Err q) e = cc (ap (λ (r : ReadSaid). r.said) e)
+read_injective x y e = ap (λ (r : ReadSaid). record { said = r.said; lot = r.lot }) e
 
 -- What is said is the answer itself, so two answers that say the same are the same answer.
 pub said_injective : {A : Type 0} → Injective (λ (said : Said A). said)

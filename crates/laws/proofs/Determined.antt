@@ -12,7 +12,7 @@ use Rattle.rules.specs.declared.Percentages.{Percentages}
 use Rattle.rules.specs.declared.Payment.{Payment}
 use Rattle.rules.specs.declared.Characteristics.{Characteristics}
 use Rattle.rules.specs.declared.Pair.{Pair}
-use Rattle.rules.specs.declared.HeldLot.{HeldLot}
+use Rattle.rules.specs.declared.ReadAnswer.{ReadAnswer}
 use Rattle.rules.specs.declared.Row.{Row}
 use Rattle.rules.specs.declared.Difference.{Difference}
 use Rattle.rules.specs.Units.{Limit}
@@ -41,7 +41,7 @@ pub evaluation_determined : (table : Table) (lot : Lot) (r q : Said Percentages)
 evaluation_determined table lot r q e f = (e ∙ sym f)
 
 -- A read's promise determines the lot that is left in memory too,
-pub read_determined : (bs : List ℕ) (r q : Said HeldLot) → read_said r ≡ read_leaves bs → read_said q ≡ read_leaves bs → r ≡ q
+pub read_determined : (bs : List ℕ) (r q : ReadAnswer) → read_said r ≡ read_leaves bs → read_said q ≡ read_leaves bs → r ≡ q
 read_determined bs r q e f = read_injective r q (e ∙ sym f)
 
 -- and a write's promise every byte of the lent slice.

@@ -5,12 +5,14 @@ ghost use Rattle.rules.specs.Percent.{admits, nearest};
 ghost use Rattle.rules.specs.Halving.{handheld};
 ghost use Rattle.laws.specs.Bounds.{SpreadInBounds, DistanceInBounds};
 
+use readings::magnitude;
+
 // 1600·(n−1)·D² ≥ (2k−1)²·n·V, for a row k from 1 on.
 fn admits(n: u64, v: u64, d: i64, k: u64) -> bool
     requires { SpreadInBounds n v × DistanceInBounds d × (1 ≤ k) × (k ≤ last_row) }
     ensures { result ≡ admits n (pos v) d k }
 {
-    let distance = d.unsigned_abs();
+    let distance = magnitude(d);
     (2 * k - 1) * (2 * k - 1) * n * v <= 1600 * (n - 1) * (distance * distance)
 }
 

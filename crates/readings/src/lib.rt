@@ -11,8 +11,15 @@ ghost use Rattle.rules.specs.Entries.{mean_says, deviation_says};
 ghost use Rattle.laws.specs.Totalled.{pass_says, walk_says, totals_says};
 ghost use Rattle.laws.specs.Bounds.{Bounded, SpreadInBounds};
 
-use refusals::{allowed, in_range};
+use refusals::{allowed, in_range_32};
 use rules::{Mean, Refusal, Thousandths, Totals};
+
+// The magnitude of a number.
+pub fn magnitude(z: i64) -> u64
+    ensures { result ≡ nat_abs z }
+{
+    z.unsigned_abs()
+}
 
 // T and Z with one reading more; n is the count of all the readings and stays.
 fn step(a: Totals, x: i64) -> Totals
@@ -32,9 +39,8 @@ pub fn pass(a: Totals, x: i32) -> Result<Totals, Refusal>
     requires { (nat_abs a.t ≤ most * 500000) × (nat_abs a.z ≤ most * 250000000000) }
     ensures { result ≡ pass_says a x }
 {
-    let x = i64::from(x);
-    if in_range(x) {
-        Ok(step(a, x))
+    if in_range_32(x) {
+        Ok(step(a, i64::from(x)))
     } else {
         Err(Refusal::Range)
     }
@@ -80,7 +86,7 @@ pub fn spread(a: Totals) -> u64
     requires { Bounded a }
     ensures { pos result ≡ spread a }
 {
-    difference(i64::from(a.n), a.t, a.z).unsigned_abs()
+    magnitude(difference(i64::from(a.n), a.t, a.z))
 }
 
 // 4V < (2s+1)²·n·(n−1)

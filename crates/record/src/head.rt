@@ -7,7 +7,7 @@ ghost use Rattle.rules.specs.Refusals.{size_case, version_case, flags_case, reco
 ghost use Rattle.rules.specs.Meets.{head_meets};
 ghost use Rattle.laws.specs.Totalled.{said_of};
 
-use fields::number::word;
+use fields::number::{signed, spell, unsigned, word};
 use rules::{Limit, LotLimits, Refusal, Thousandths};
 
 pub const HEAD: usize = 13;
@@ -112,7 +112,7 @@ impl<'a> Head<'a> {
         requires { at + 4 ≤ head_size }
         ensures { result ≡ limit_of present (four (part at 4 self.entry.bytes.now)) }
     {
-        present.then(|| Thousandths(word(self.bytes, at).cast_signed()))
+        present.then(|| Thousandths(signed(word(self.bytes, at))))
     }
 
     #[tactic(auto, unfolding(rules::specs::Record::lot_of_record))]
@@ -135,11 +135,11 @@ impl<'a> Head<'a> {
 }
 
 // The four bytes of a limit: all zero when it is absent.
-#[tactic(auto, using(laws::proofs::Spelled::to_be_bytes_four))]
+#[tactic(auto, unfolding(rules::specs::Record::spell))]
 fn limit_bytes(limit: Limit) -> [u8; 4]
     ensures { result ≡ limit_bytes limit }
 {
-    limit.map_or(0, |z| z.0).to_be_bytes()
+    spell(limit.map_or(0, |z| unsigned(z.0)))
 }
 
 // The first 13 bytes of a record, by the lot's count and limits. Inner: the writer passes those of a lot that is not refused.

@@ -3,18 +3,20 @@
 
 mod head;
 
-ghost use Rattle.std.specs.Prelude.{◌≡◌, ◌++◌, ◌+◌, ◌*◌, ◌≤◌, length, drop};
+ghost use Rattle.std.specs.Prelude.{◌≡◌, ◌++◌, ◌+◌, ◌*◌, ◌≤◌, Ok, length, drop};
 ghost use Rattle.rules.specs.Lot.{most, lot_in};
 ghost use Rattle.rules.specs.Record.{head_size, record_of};
-ghost use Rattle.rules.specs.Entries.{read_said, read_leaves, write_says, after_write};
+ghost use Rattle.rules.specs.Entries.{read_said, read_says, held, read_leaves, write_says, after_write};
+ghost use Rattle.laws.specs.Totalled.{said_of};
 
+use fields::number::{spell, unsigned};
 use fields::words::walk;
 use head::{HEAD, Head, head_of};
-use rules::{HeldLot, Refusal};
+use rules::{HeldLot, MOST, ReadAnswer, Refusal, Thousandths};
 
-// The lot of a record, which must fill its slice.
-pub fn read(bytes: &[u8]) -> Result<HeldLot, Refusal>
-    ensures { read_said result ≡ read_leaves bytes.now }
+// The lot of a record, as it is left in memory; or the refusal.
+fn lot(bytes: &[u8]) -> Result<HeldLot, Refusal>
+    ensures { result ≡ said_of (λ lot. held (Ok lot)) (read_says bytes.now) }
 {
     let head = Head::of(bytes)?;
     let n = head.count();
@@ -28,6 +30,24 @@ pub fn read(bytes: &[u8]) -> Result<HeldLot, Refusal>
     })
 }
 
+// The lot of a record, which must fill its slice; beside a refusal a blank one.
+pub fn read(bytes: &[u8]) -> ReadAnswer
+    ensures { read_said result ≡ read_leaves bytes.now }
+{
+    match lot(bytes) {
+        Err(refusal) => ReadAnswer {
+            said: Err(refusal),
+            lot: HeldLot {
+                upper: None,
+                lower: None,
+                count: 0,
+                readings: [Thousandths(0); MOST],
+            },
+        },
+        Ok(lot) => ReadAnswer { said: Ok(()), lot },
+    }
+}
+
 // Writes the record of a lot that is not refused, from the start of a slice that has room for it.
 fn put_record(lot: HeldLot, out: &mut [u8])
     requires few { lot.count ≤ most }
@@ -37,7 +57,7 @@ fn put_record(lot: HeldLot, out: &mut [u8])
     out[..HEAD].copy_from_slice(&head_of(lot.count, lot.limits()));
     for (i, reading) in lot.readings[..lot.count as usize].iter().enumerate() {
         let at = HEAD + 4 * i;
-        out[at..at + 4].copy_from_slice(&reading.0.to_be_bytes());
+        out[at..at + 4].copy_from_slice(&spell(unsigned(reading.0)));
     }
 }
 

@@ -26,10 +26,17 @@ pub fn in_range(z: i64) -> bool
     (-500000 <= z) & (z <= 500000)
 }
 
+// The same range, for a number of 32 bits, as every reading and limit is.
+pub fn in_range_32(x: i32) -> bool
+    ensures { result ≡ in_range x }
+{
+    in_range(i64::from(x))
+}
+
 fn out_of_range(limit: Limit) -> bool
     ensures { result ≡ out_of_range limit }
 {
-    limit.is_some_and(|z| !in_range(i64::from(z.0)))
+    limit.is_some_and(|z| !in_range_32(z.0))
 }
 
 // 5, of limits: a present one out of range.

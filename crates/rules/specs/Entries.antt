@@ -3,6 +3,7 @@ use Rattle.std.specs.Prelude.{List, ◌++◌, ℕ, ℤ, pos, length, drop, repli
 use Rattle.rules.specs.declared.Thousandths.{Thousandths}
 use Rattle.rules.specs.Units.{Limit, thousandths, hundredths}
 use Rattle.rules.specs.declared.HeldLot.{HeldLot}
+use Rattle.rules.specs.declared.ReadAnswer.{ReadAnswer}
 use Rattle.rules.specs.declared.Totals.{Totals}
 use Rattle.rules.specs.declared.Mean.{Mean}
 use Rattle.rules.specs.declared.Percentages.{Percentages}
@@ -81,15 +82,13 @@ abbrev pub bare : {A : Type 0} → Said A → Said (Unit {0})
 bare (Err r) = Err r
 bare (Ok a) = Ok tt
 
--- what is said of a record, and the lot in memory that is left beside it
+-- a lot that was read, beside what is said of it
 pub record ReadSaid : Type 0 where
   pub said : Said (Unit {0})
   pub lot : HeldLot
 
--- what the answer of a read leaves: the lot that was read, or a blank one beside the refusal
-abbrev pub read_said : Said HeldLot → ReadSaid
-read_said (Err r) = record { said = Err r; lot = held (Err r) }
-read_said (Ok lot) = record { said = Ok tt; lot = lot }
+abbrev pub read_said : ReadAnswer → ReadSaid
+read_said r = record { said = r.said; lot = r.lot }
 
 -- the refusal, or that there is none, beside that lot in memory
 abbrev pub beside : Said Lot → ReadSaid

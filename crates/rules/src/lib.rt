@@ -114,6 +114,13 @@ impl HeldLot {
     }
 }
 
+// What a read answers, and the lot in memory that is left beside it, which is blank where the record is refused.
+#[derive(Clone, Copy)]
+pub struct ReadAnswer {
+    pub said: Result<(), Refusal>,
+    pub lot: HeldLot,
+}
+
 // n, T and Z of some readings: their count, their sum and the sum of their squares.
 #[derive(Clone, Copy)]
 pub struct Totals {

@@ -8,5 +8,5 @@ pub returns : goal.returns
 unfolding spread
 returns c =
     let d : c.difference.result ≡ spread c.args.a = search rules in
-    let m : c.unsigned_abs.result ≡ nat_abs c.difference.result = search rules in
+    let m : c.magnitude.result ≡ nat_abs c.difference.result = search rules in
     ap pos (m ∙ ap nat_abs d) ∙ nat_abs_pos c.requires.spread_not_negative

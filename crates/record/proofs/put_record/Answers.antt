@@ -7,7 +7,7 @@ use Rattle.rules.specs.declared.Thousandths.{Thousandths}
 use Rattle.rules.specs.Units.{thousandths}
 use Rattle.rules.specs.Lot.{most, plain}
 use Rattle.rules.specs.Record.{head_of, in_four, in_fours, head_size, record_of}
-use Rattle.laws.proofs.Spelled.{length_in_fours, in_fours_snoc, to_be_bytes_four}
+use Rattle.laws.proofs.Spelled.{length_in_fours, in_fours_snoc}
 use Rattle.laws.proofs.Records.{length_head}
 use Rattle.record.proofs.put_record.Goals as goal
 
@@ -34,7 +34,7 @@ loop-i-preserved c =
     let i : ℕ = c.loop-i.i in
     let places : length lot.readings ≡ most = search rules in
     let inside : i < lot.count = omega (arith, length-take-le lot.count lot.readings (omega arith)) in
-    let bytes : c.copy_from_slice-in-loop-i.new.self ≡ in_four (get_or (take lot.count lot.readings) i (thousandths (pos 0))).0 = search (rules, to_be_bytes_four) in
+    let bytes : c.copy_from_slice-in-loop-i.new.self ≡ in_four (get_or (take lot.count lot.readings) i (thousandths (pos 0))).0 = search rules in
     let same : (get_or (take lot.count lot.readings) i (thousandths (pos 0))).0 ≡ get_or (plain lot.readings) i (pos 0) = rw get_or-take (sym (get_or-map (λ (r : Thousandths). r.0) lot.readings i (thousandths (pos 0)))) in
     let step = next (head_of lot.count lot.upper lot.lower) c.args.out.now (plain lot.readings) i (length_head lot.count lot.upper lot.lower) (omega (arith, length-map lot.readings (λ (r : Thousandths). r.0))) in
     rw (bytes, same, c.loop-i.invariant) step

@@ -22,7 +22,7 @@ pub returns : goal.returns
 unfolding midpoint_squared admits
 returns c =
     let k : ℕ = c.args.k in
-    let distance : c.unsigned_abs-distance.result ≡ nat_abs c.args.d = search rules in
+    let distance : c.magnitude-distance.result ≡ nat_abs c.args.d = search rules in
     let later : eqb k 0 ≡ false = ne_eqb k 0 (λ e. omega (arith, c.requires.2)) in
     let midpoint : ℕ = (2 * k - 1) * (2 * k - 1) * c.args.n * c.args.v in
     rw (later, index_by_magnitude c.args.n c.args.d) (ap (λ (m : ℕ). leb midpoint (1600 * (c.args.n - 1) * (m * m))) distance)

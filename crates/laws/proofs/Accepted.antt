@@ -20,7 +20,7 @@ use Rattle.rules.specs.Percent.{Rule, totals}
 use Rattle.rules.specs.Refusals.{allowed, count_case, out_of_range, any_out, range_case, unlimited_case, crossed, crossed_case, store_case, edition_case, column_case}
 use Rattle.rules.specs.Meets.{readings_meet, limits_meet, lot_meets, counted_meets, column_meets, evaluation_meets}
 use Rattle.rules.specs.Entries.{percentages_of, percentages, evaluated}
-use Rattle.laws.specs.StoreWalk.{table_at, NamedIn}
+use Rattle.laws.specs.StoreWalk.{table_at}
 use Rattle.laws.specs.Totalled.{totals_says, found_say, with_column_say, columned_said, lot_totals, totalled, by_table}
 use Rattle.laws.specs.Bounds.{Accepted, Bounded}
 use Rattle.laws.specs.Moved.{Counted}
@@ -97,15 +97,15 @@ column_found found e =
 
 -- To look for the store before all else and for a column after it is to have these cases first and last.
 pub totalled_with_column :
-    (named : Said (Option ℕ)) (s : List ℕ) → NamedIn s named → (meets : Lot → List Case) (lot : Lot) →
+    (named : Said (Option ℕ)) (s : List ℕ) (meets : Lot → List Case) (lot : Lot) →
     with_column_say named s (totalled meets lot) ≡
     totalled (λ l. store_case (table_at named s l.n) ∷ (meets l ++ column_meets (table_at named s l.n))) lot
 unfolding totalled
-totalled_with_column (Err r) s is meets lot = ap Err is ∙ sym (ruled_met _ _ _ refl)
-totalled_with_column (Ok None) s is meets lot =
+totalled_with_column (Err r) s meets lot = sym (ruled_met _ _ _ refl)
+totalled_with_column (Ok None) s meets lot =
     ruled_then (meets lot) _ (lot_totals lot) (found_say (table_at (Ok None) s)) (λ r. refl) refl
     ∙ sym (ruled_passed _ _ _ refl)
-totalled_with_column (Ok (Some start)) s is meets lot =
+totalled_with_column (Ok (Some start)) s meets lot =
     ruled_then (meets lot) _ (lot_totals lot) (found_say (table_at (Ok (Some start)) s)) (λ r. refl) refl
     ∙ sym (ruled_passed _ _ _ (ap not (edition_is_found _ lot.n).0))
 

@@ -59,7 +59,7 @@ module _ (s : List ℕ) (k : ℕ) {named : Said (Option ℕ)} (e : named ≡ nam
   columned_is_totalled meets lot f g =
       g
       ∙ ap (with_column_say named s) f
-      ∙ totalled_with_column named s found_in_store meets lot
+      ∙ totalled_with_column named s meets lot
       ∙ ap (λ (table : Table). totalled (λ l. store_case (table l.n) ∷ (meets l ++ column_meets (table l.n))) lot) found_table
 
   -- and its column is the one that the store has for its count.

@@ -2,7 +2,7 @@
 use Rattle.std.specs.Prelude.{cond, ◌||◌, List, [], ◌∷◌, ℕ, ℤ, ◌+ℤ◌, ◌*ℤ◌, length, None, Ok, Err, Option}
 use Rattle.rules.specs.Units.{Limit, in_range}
 use Rattle.rules.specs.declared.Totals.{Totals}
-use Rattle.rules.specs.declared.Refusal.TheVariants.{Range}
+use Rattle.rules.specs.declared.Refusal.TheVariants.{Range, Unsound}
 use Rattle.rules.specs.declared.Columned.{Columned}
 use Rattle.rules.specs.Said.{Said, Case, ruled}
 use Rattle.rules.specs.Lot.{Lot}
@@ -50,7 +50,7 @@ found_say table (Ok a) = ruled (column_meets (table a.n)) a
 
 -- The same, where an edition was named in a store: 11 comes before whatever is said of the lot.
 abbrev pub with_column_say : Said (Option ℕ) → List ℕ → Said Totals → Said Totals
-with_column_say (Err r) s said = Err r
+with_column_say (Err r) s said = Err Unsound
 with_column_say (Ok found) s said = found_say (table_at (Ok found) s) said
 
 -- what is said of totals that stand beside the place of a column

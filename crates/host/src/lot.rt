@@ -88,7 +88,10 @@ pub fn read(answer: ReadAnswer) -> HostRead
     ensures { result ≡ host_read (read_said answer) }
 {
     HostRead {
-        refusal: answer.said.map_or_else(refused, |()| UNREFUSED),
+        refusal: match answer.said {
+            Err(refusal) => refused(refusal),
+            Ok(()) => UNREFUSED,
+        },
         lot: host_lot(answer.lot),
     }
 }

@@ -142,15 +142,9 @@ part_two bs i h = simp (towards_suc, drop-cons bs i 0 (omega arith), drop-cons b
 pub part_four : (bs : List ℕ) (i : ℕ) → i + 4 ≤ length bs → part i 4 bs ≡ get_or bs i 0 ∷ get_or bs (i + 1) 0 ∷ get_or bs (i + 2) 0 ∷ get_or bs (i + 3) 0 ∷ []
 part_four bs i h = cc (take-add 2 2 (drop i bs), drop-drop 2 i bs, add_assoc i 2 1, part_two bs i (omega arith), part_two bs (i + 2) (omega arith))
 
--- Two bytes from a place on, read so, are the number that they spell; and so are four.
+-- Two bytes from a place on, read so, are the number that they spell.
 pub two_read : (bs : List ℕ) (i : ℕ) → i + 2 ≤ length bs → from_be_bytes w16 (get_or bs i 0 ∷ get_or bs (i + 1) 0 ∷ []) ≡ spelled 0 (part i 2 bs)
 two_read bs i h = from_be_bytes_two (get_or bs i 0) (get_or bs (i + 1) 0) ∙ sym (ap (spelled 0) (part_two bs i h))
-
-pub four_read :
-    (bs : List ℕ) (i : ℕ) → i + 4 ≤ length bs →
-    from_be_bytes w32 (get_or bs i 0 ∷ get_or bs (i + 1) 0 ∷ get_or bs (i + 2) 0 ∷ get_or bs (i + 3) 0 ∷ []) ≡ spelled 0 (part i 4 bs)
-four_read bs i h =
-    from_be_bytes_four (get_or bs i 0) (get_or bs (i + 1) 0) (get_or bs (i + 2) 0) (get_or bs (i + 3) 0) ∙ sym (ap (spelled 0) (part_four bs i h))
 
 -- four bytes, one by one
 pub four_bytes : (bs : List ℕ) → length bs ≡ 4 → bs ≡ get_or bs 0 0 ∷ get_or bs 1 0 ∷ get_or bs 2 0 ∷ get_or bs 3 0 ∷ []

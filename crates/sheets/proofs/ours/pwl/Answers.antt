@@ -7,7 +7,7 @@ use Rattle.rules.specs.Said.{Said}
 use Rattle.rules.specs.Lot.{Lot, lot_in}
 use Rattle.rules.specs.Meets.{counted_meets, evaluation_meets}
 use Rattle.rules.specs.Check.{pwl_says}
-use Rattle.laws.specs.StoreWalk.{NamedIn, table_at}
+use Rattle.laws.specs.StoreWalk.{table_at}
 use Rattle.laws.specs.Totalled.{with_column_say, totalled, by_table}
 use Rattle.laws.proofs.Accepted.{totalled_with_column, lot_totalled}
 use Rattle.laws.proofs.Columned.{placed_percentages, column_placed}

@@ -38,7 +38,7 @@ all_least named w [] = refl
 all_least named w (e ∷ es) = all_least named (passed_by named w (length e) (number_field e)) es
 
 -- A start once known is kept,
-start_kept : (named : ℕ) (w : Walked) (es : List (List ℕ)) (at : ℕ) → w.start ≡ Some at → (passed_all named w es).start ≡ Some at
+pub start_kept : (named : ℕ) (w : Walked) (es : List (List ℕ)) (at : ℕ) → w.start ≡ Some at → (passed_all named w es).start ≡ Some at
 unfolding passed_all
 start_kept named w [] at h = h
 start_kept named w (e ∷ es) at h = start_kept named (passed_by named w (length e) (number_field e)) es at (simp h)
